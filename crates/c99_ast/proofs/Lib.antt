@@ -1,0 +1,5 @@
+pub mod Runs
+pub mod Counts
+pub mod Shaped
+pub mod Sizes
+pub mod Rows

@@ -1,0 +1,15 @@
+pub mod Bound
+pub mod Tree
+pub mod TreeLaws
+pub mod CTypes
+pub mod Words
+pub mod Lookup
+pub mod Values
+pub mod Storage
+pub mod Spelling
+pub mod Typing
+pub mod Evaluation
+pub mod Step
+pub mod Run
+pub mod Weight
+pub mod WellFormed

@@ -1,0 +1,5 @@
+pub mod Pieces
+pub mod Feeds
+pub mod Cells
+pub mod Standing
+pub mod RowLines

@@ -1,0 +1,10 @@
+pub mod Lines
+pub mod Feeding
+pub mod Standing
+pub mod Limits
+pub mod Fields
+pub mod Records
+pub mod Columns
+pub mod Rows
+pub mod Reads
+pub mod Events

@@ -1,0 +1,4 @@
+pub mod Rings
+pub mod Rows
+pub mod Steps
+pub mod Blocks

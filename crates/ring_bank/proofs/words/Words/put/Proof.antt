@@ -1,0 +1,82 @@
+-- `put` opens the words, writes one word's cell, and closes them at the list that has the word there. Assumes `Logic`.
+use Rattle.std.proofs.Common.{ℕ, ◌+◌, ◌-◌, ◌*◌, ◌^◌, ◌<◌, ◌≤◌, List, [], ◌∷◌, length, get_or, set, refl, sym, ap, ◌∙◌, arith, length-set, w64}
+use base.Fraction.{full_share}
+use base.Logic.{id⊢}
+use base.Fml.{ftrue, fat, flft}
+use mir.Syntax.{ty_int, named}
+use mir.Val.{Val, vunit, vint}
+use contract.Monad.{fact}
+use contract.Running.{tables}
+use types.Kit.{‵, raw, ◌⊛◌, at_ret, ◌$◌, ◌∵◌, !, qed, done, move, keep, drop, use1, use2, split, join, fsplit, fsplit3, fjoin, feq_i, rewrite, suffices, frame}
+use types.Part.{whole, sub, look_in}
+use types.Run.{enter, of_opd, lit, unit_lit, bin, load, store, stop, fld, assigns_last, first, blocks, exec, returns}
+use types.ByLocal.{alloc_all, pass_all, free_all, look_at, get, through, sets, env}
+use denote.Builtin.{u64, usize}
+use denote.Exit.{yes}
+use denote.Index.{row}
+use denote.Laws.{shows}
+use denote.Memory.{cell_at}
+use denote.Plain.{uint_vals, uint_Tells}
+use denote.RattleType.{owns}
+use denote.RawPtr.{Ptr, in_a_block}
+use denote.Ref.{mut_vals, mut_Tells}
+use denote.Signature.{plain, types_at}
+use denote.Steps.{nothing, heard, opens, closes, peeks}
+use denote.Triple.Walked.{Stays, walk_of, says, stay_ref, stay_dropped, Goes-ref, Goes-dropped, ends_at}
+use Rattle.std.proofs.raw_atomic.Walks.{proved}
+use Rattle.std.proofs.VecSteps.Shapes.{after}
+use Rattle.ring_bank.specs.Ownership.{words_owned, room}
+use Rattle.ring_bank.proofs.Steps.{rest, cell_out, cell_in}
+use Rattle.ring_bank.specs.contracts.words.Words.put as f
+use Rattle.ring_bank.specs.contracts.words.Words.{the_row as R}
+use Rattle.ring_bank.proofs.words.Words.TheLaws.{lowers}
+use Rattle.ring_bank.proofs.words.Words.put.Statement.{statement}
+use Rattle.ring_bank.proofs.words.Words.put.Code as code
+
+abbrev stayed : Stays f.ended.signature.params f.ended.kept
+stayed = (stay_ref (0 ∷ []) tt (plain (λ _. R)), (stay_dropped (plain (λ _. usize)) yes, (stay_dropped (plain (λ _. u64)) yes, tt)))
+
+pub put_spec : {M : Type 1} → statement M
+put_spec 𝓤 𝓛 𝓜 𝓡 wired =
+    let c = f.clauses 𝓛 𝓜.mem 𝓡.returns in let W = walk_of 𝓛 f.ended stayed c in let 𝓣 = tables 𝓤 𝓛.H 𝓜 𝓡 𝓡.env in
+    proved 𝓛 f.ended stayed c 𝓜 𝓡
+    (Goes-ref 𝓛 1 0 tt (plain (λ _. R)), (Goes-dropped 𝓛 1 (plain (λ _. usize)) yes (λ κs x w. refl), (Goes-dropped 𝓛 1 (plain (λ _. u64)) yes (λ κs x w. refl), tt)))
+    f.Key.name code.function (code.unfolded 𝓤 𝓛.H 𝓜 𝓡 wired)
+    (λ κs. (mut_vals, (uint_vals w64, (uint_vals w64, tt)))) (λ κs. (mut_Tells (named 0) κs.0 R, (uint_Tells w64, (uint_Tells w64, tt)))) (λ κs qs bounds a _ are.
+    let b = a.0.ref_ptr.0 in let o = a.0.ref_ptr.1 in let h = a.0.now in let i = a.1.0 in let x = a.1.1.0 in
+    let y : W.Ghost = ((κs, qs, bounds, a, (mut_vals a.0, (uint_vals w64 i, (uint_vals w64 x, tt)))), tt) in
+    qed 𝓛 (((‵ (flft κs.0 qs.0) ⊛ ‵ ftrue) ⊛ ‵ (owns (types_at f.ended.signature.params κs) a y.0.4)) ∷ raw (fact 𝓤 (i < length h.words)) ∷ []) ∵
+    move ! (1 ∷ []) $ heard ! _ (λ inside.
+    let few : length h.words ≤ 262144 = omega (arith, h.within.0, h.within.1) in
+    let offset : i * 8 < 2 ^ 64 = omega arith in
+    let old = get_or h.words i 0 in let ys = set h.words i x in
+    split ! $ move ! (1 ∷ []) $ fsplit ! $ move ! (1 ∷ []) $ drop ! $ move ! (1 ∷ []) $ split ! $ keep ! (2 ∷ 0 ∷ []) $
+    -- [self; the token]
+    enter ! _ _ _ _ _ $ alloc_all ! (λ l. pass_all ! refl ((tt, tt), ((tt, record { fits = are.1.0.1 }), ((tt, record { fits = are.1.1.0.1 }), tt))) $
+    fsplit3 ! $ move ! (1 ∷ 2 ∷ 3 ∷ []) $ opens ! tt R b o (λ us.
+    move ! (1 ∷ []) $ peeks ! R _ (shows 𝓛 R) h us (λ is. fsplit ! $ move ! (1 ∷ []) $
+    in_a_block ! h.at (λ p. words_owned p h.words h.room) (id⊢ 𝓤 _) (λ b' o' e. fsplit ! $
+    use1 𝓛 (‵ (fat full_share (ty_int w64) b' (i * 8 + o') (vint w64 old)) ⊛ ‵ (rest 𝓛 full_share b' o' h.words i inside)) (cell_out 𝓛 full_share b' o' h.words i inside) $ split ! $
+    let lowered = lowers.val_is h us is ∙ ap (λ (p : Ptr). lowers.lowered (record h { at = p }) ∷ []) e in
+    let Cell = λ (ws : List Val). ‵ (cell_at full_share R.mir ws b o) in
+    rewrite ! 4 Cell lowered refl $
+    -- [the word's cell; the other words; the room behind; what the fields own; the struct's cell; the open borrow, in three entries]
+    first ! $ blocks ! $
+    sets ! (of_opd ! (load ! (through ! refl (fld ! refl (stop !))) (look_in ! 4 (sub ! 0 refl (whole !))))) refl (tt, tt) $
+    sets ! (bin ! (get ! refl) (lit ! tt) (record { fits = offset })) refl (tt, record { fits = offset }) $
+    sets ! (bin ! (get ! refl) (get ! refl) tt) refl (tt, tt) $
+    assigns_last ! (of_opd ! (get ! refl)) (through ! refl (stop !)) (store ! 0 refl (tt, record { fits = are.1.1.0.1 })) $
+    exec ! 𝓣.C 𝓣.Λ (env code.Mir.locals l) (after 1 (code.function).body) (at_ret _ (W.post y)) $
+    sets ! (of_opd ! (unit_lit !)) refl (tt, tt) $
+    use2 𝓛 (‵ (row u64 full_share ys b' o')) (cell_in 𝓛 full_share b' o' h.words i inside x) $
+    let same = length-set h.words i x in
+    rewrite ! 1 (λ (n : ℕ). ‵ (room (h.room - n) b' (n * 8 + o'))) (sym same) refl $ fjoin ! $
+    rewrite ! 0 (λ (p : Ptr). ‵ (words_owned p ys h.room)) (sym e) refl $ rewrite ! 2 Cell (sym lowered) refl $
+    let new = record h { words = ys; within = (omega (arith, h.within.0, same), h.within.1) } in
+    move ! (1 ∷ []) $ fjoin ! $ move ! (1 ∷ []) $ closes ! tt R new us b o $
+    returns ! (look_at ! 0 refl) $ free_all ! refl $
+    -- [self's last two parts; the token; its first part]
+    suffices ! _ (ends_at 𝓛 f.ended stayed c y vunit tt (new, (tt, (tt, tt))) (tt, (tt, (tt, tt)))) $ says ! (refl, refl, refl) $
+    nothing ! $ move ! (3 ∷ 0 ∷ []) $ join ! $ frame ! $ fjoin ! $ move ! (1 ∷ 0 ∷ []) $ fjoin ! $
+    nothing ! $ nothing ! $ fjoin ! $ nothing ! $ fjoin ! $ move ! (1 ∷ 0 ∷ []) $ fjoin ! $
+    feq_i ! (List Val) (vunit ∷ []) (vunit ∷ []) refl $ move ! (1 ∷ 0 ∷ []) $ done !))))))

@@ -1,0 +1,18 @@
+//! Rings of rows in one raw block: the shapes of the rings and their first words come in, and a bank goes out, which
+//! gives a row's words, and takes a new row in place of a ring's oldest one.
+//! `specs/Rows.antt` says how a list of words is cut into rings of rows, and what a push leaves.
+//! Only `words` and `memory` touch pointers, and each function there is proved by hand.
+#![tactic(auto)]
+
+mod bank;
+mod block;
+mod memory;
+mod ring;
+mod shape;
+mod words;
+
+pub use bank::Bank;
+pub use shape::Shape;
+
+#[cfg(test)]
+mod tests;

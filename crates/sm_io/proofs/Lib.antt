@@ -1,0 +1,4 @@
+pub mod Pieces
+pub mod Keys
+pub mod Shelves
+pub mod Written

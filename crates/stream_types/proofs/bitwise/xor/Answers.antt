@@ -1,0 +1,5 @@
+use Rattle.std.proofs.lemmas.Nat.{xor_lt}
+use Rattle.stream_types.proofs.bitwise.xor.Goals as goal
+
+pub of_bits-requires : goal.of_bits-requires
+of_bits-requires g c = xor_lt _ _ _ c.to_bits.ensures.below c.to_bits-2.ensures.below

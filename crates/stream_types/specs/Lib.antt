@@ -1,0 +1,7 @@
+pub mod Scalars
+pub mod Numbers
+pub mod IntTy
+pub mod IntTyLaws
+pub mod Types
+pub mod TypeList
+pub mod Kept

@@ -1,0 +1,26 @@
+//! Takes the types of a specification and the words that values are kept as.
+//! Gives the list of its types, with their widths and members, and the operators on words.
+//! `specs/Types.antt` says how wide a type is, `specs/Numbers.antt` what each operator answers.
+#![tactic(auto)]
+
+mod arithmetic;
+mod bitwise;
+mod comparison;
+mod int_ty;
+mod number;
+mod op_table;
+mod ops;
+mod scalar;
+mod shifts;
+mod types;
+
+pub use int_ty::IntTy;
+pub use op_table::{
+    BOOL, INTEGERS, OpTable, SCALARS, cast_applies, op1_applies, op2_applies, shift_applies,
+};
+pub use ops::{cast, op1, op2, shift};
+pub use scalar::{Dir, Hazard, Op1, Op2, Scalar, Ty};
+pub use types::{Field, FieldAt, StructFault, TypeEntry, Types};
+
+#[cfg(test)]
+mod tests;

@@ -1,0 +1,4 @@
+pub mod Fronts
+pub mod ThinTexts
+pub mod Words
+pub mod Compiling

@@ -1,0 +1,18 @@
+//! The top call: words in, an outcome out, with the files, the events and the line on the error sink that it tells.
+//! What each outcome means is said by `specs/Answer.antt`, the command table by `specs/Command.antt` and the lines by
+//! `specs/Lines.antt`.
+#![tactic(auto)]
+
+mod command;
+mod outcome;
+mod print;
+mod read;
+mod tell;
+mod thin;
+mod top;
+
+pub use outcome::{Outcome, Refusal, RefusalKind, Tool};
+pub use top::{outcome_is_one, run_tool};
+
+#[cfg(test)]
+mod tests;
