@@ -1,3 +1,7 @@
+pub mod Filled
+pub mod Soundness
+pub mod Whole
+pub mod Parting
 pub mod Runs
 pub mod Counts
 pub mod Shaped

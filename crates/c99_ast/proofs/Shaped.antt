@@ -211,7 +211,7 @@ all-shaped ds f (x ∷ xs) h g =
     both_true true b h g = g
     both_true false b h g = h
 
--- the four parts of the third rule
+-- the four parts of the rule that types come first
 parts : (a b c d : Bool) → (a && b && c && d) ≡ true → (a ≡ true) × (b ≡ true) × (c ≡ true) × (d ≡ true)
 parts true true true true h = (refl, refl, refl, refl)
 parts true true true false h = absurd (cc h)

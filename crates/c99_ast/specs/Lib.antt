@@ -13,3 +13,7 @@ pub mod Step
 pub mod Run
 pub mod Weight
 pub mod WellFormed
+pub mod Kinds
+pub mod Checks
+pub mod Filling
+pub mod Rules

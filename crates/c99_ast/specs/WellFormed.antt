@@ -81,7 +81,7 @@ abbrev pub are_distinct : {X : Type 0} → (X → X → Bool) → List X → Boo
 are_distinct alike [] = true
 are_distinct alike (x ∷ xs) = not (list_any (alike x) xs) && are_distinct alike xs
 
--- ---- 1: each name is a name, a ring's also a decimal from 1 on, and an element's word also a scalar's
+-- ---- each name is a name, a ring's also a decimal from 1 on, and an element's word also a scalar's
 
 abbrev pub has_names_type : CTy → Bool
 has_names_type (ty.Scalar t) = true
@@ -132,7 +132,7 @@ names_are_names u =
     && list_all has_names_handler u.handlers && list_all has_names_ring u.rings
     && each_statement has_names_statement u && each_part has_names_part u
 
--- ---- 2: no two names of one space are equal (6.2.3, 6.7): the structs, the members of one struct, the array types,
+-- ---- no two names of one space are equal (6.2.3, 6.7): the structs, the members of one struct, the array types,
 -- the rings, and the externs and handlers together
 
 abbrev pub are_distinct_fields : CDef → Bool
@@ -151,7 +151,7 @@ names_are_distinct u =
     && are_distinct is_same (map (λ r. r.name) u.rings)
     && are_distinct is_same (map (λ x. x.name) u.externs ++ map (λ h. h.name) u.handlers)
 
--- ---- 3: a type is defined before its use (6.7.2.1 paragraph 2, 6.7.2.3)
+-- ---- a type is defined before its use (6.7.2.1 paragraph 2, 6.7.2.3)
 
 -- each type that a definition is made of stands among those before it
 abbrev pub is_built_from : List CDef → CDef → Bool
@@ -167,7 +167,7 @@ types_come_first u =
     types_are_built_in_order u.types && list_all (λ x. is_defined u.types x.ty) u.externs
     && list_all (λ h. list_all (is_defined u.types) h.params) u.handlers && list_all (λ r. is_defined u.types r.ty) u.rings
 
--- ---- 4: what a statement or an expression names is there (6.5.1, 6.5.2.3)
+-- ---- what a statement or an expression names is there (6.5.1, 6.5.2.3)
 
 abbrev pub is_there : CUnit → Expr → Bool
 is_there u (lit k n) = true
@@ -197,7 +197,7 @@ is_statement_there u (puts r) = is_some (ring_of u r)
 abbrev pub used_things_are_there : CUnit → Bool
 used_things_are_there u = each_statement (is_statement_there u) u && each_part (is_there u) u
 
--- ---- 5: each struct has 1 to 64 members
+-- ---- each struct has 1 to 64 members
 
 abbrev pub has_few_fields : CDef → Bool
 has_few_fields (def.Struct x fields) = nat_le 1 (length fields) && nat_le (length fields) 64
@@ -206,7 +206,7 @@ has_few_fields (def.Array x n) = true
 abbrev pub structs_have_fields : CUnit → Bool
 structs_have_fields u = list_all has_few_fields u.types
 
--- ---- 6: a literal is in the range of its type (6.4.4.1 paragraph 5)
+-- ---- a literal is in the range of its type (6.4.4.1 paragraph 5)
 
 abbrev pub is_in_range : Expr → Bool
 is_in_range (lit k n) = nat_le n (most k)
@@ -215,17 +215,17 @@ is_in_range _ = true
 abbrev pub literals_are_in_range : CUnit → Bool
 literals_are_in_range u = each_part is_in_range u
 
--- ---- 7: a ring has one constant for each word of its values, each in the range of its type
+-- ---- a ring has one constant for each word of its values, each in the range of its type
 
 abbrev pub rings_are_filled : CUnit → Bool
 rings_are_filled u = list_all (λ r. is_some (first_values u.types r)) u.rings
 
--- ---- 8: each expression has a type
+-- ---- each expression has a type
 
 abbrev pub expressions_have_types : CUnit → Bool
 expressions_have_types u = each_part (λ e. is_some (type_of u e)) u
 
--- ---- 9: a call has as many arguments as its handler has parameters (6.5.2.2 paragraph 2)
+-- ---- a call has as many arguments as its handler has parameters (6.5.2.2 paragraph 2)
 
 abbrev pub has_all_arguments : CUnit → Stmt → Bool
 has_all_arguments u (calls h guard args) = option_map_or (λ p. nat_eq (length (list_of args)) (length p.params)) (handler_of u h) false
@@ -234,7 +234,7 @@ has_all_arguments u _ = true
 abbrev pub calls_have_all_arguments : CUnit → Bool
 calls_have_all_arguments u = each_statement (has_all_arguments u) u
 
--- ---- 10: a guard and a subscript are scalar (6.8.4.1 paragraph 1, 6.5.2.1 paragraph 1)
+-- ---- a guard and a subscript are scalar (6.8.4.1 paragraph 1, 6.5.2.1 paragraph 1)
 
 abbrev pub is_scalar_expr : CUnit → Expr → Bool
 is_scalar_expr u e = option_map_or is_scalar_type (type_of u e) false
@@ -252,7 +252,7 @@ is_scalar_where_asked u _ = true
 abbrev pub guards_and_subscripts_are_scalar : CUnit → Bool
 guards_and_subscripts_are_scalar u = each_statement (is_scalar_where_asked u) u && each_part (has_scalar_subscript u) u
 
--- ---- 11: an argument fits its parameter, the value of a Next its ring, and the value of a Move the index; scalars
+-- ---- an argument fits its parameter, the value of a Next its ring, and the value of a Move the index; scalars
 -- convert (6.5.16.1 paragraph 1, 6.5.2.2 paragraph 2)
 
 -- each fits the type at its place, as far as both lists go
@@ -272,7 +272,7 @@ has_fitting_values u (puts r) = true
 abbrev pub values_fit : CUnit → Bool
 values_fit u = each_statement (has_fitting_values u) u
 
--- ---- 12: an extern is copied before its copy is read
+-- ---- an extern is copied before its copy is read
 
 abbrev pub is_copy_of : List ℕ → Stmt → Bool
 is_copy_of x (copies y) = is_same x y
@@ -285,7 +285,7 @@ is_read_after_copy before _ = true
 abbrev pub copies_come_first : CUnit → Bool
 copies_come_first u = each_after (λ before s. list_all (is_read_after_copy before) (parts_in s)) [] (statements u)
 
--- ---- 13: a ring has at most one Next, and its Stores and Puts stand after it. With an index a ring is read by its
+-- ---- a ring has at most one Next, and its Stores and Puts stand after it. With an index a ring is read by its
 -- elements and its index alone, and written by Store and Move alone. Without one it has length 1, is read by its cell
 -- alone, and written by Put alone
 
@@ -326,7 +326,7 @@ rings_are_used_their_way u =
     && list_all (λ r. r.indexed || nat_eq r.len 1) u.rings
     && each_part (reads_its_way u) u && each_statement (writes_its_way u) u
 
--- ---- 14: an array has 1 to 1,024 elements, and a ring 1 to 65,536 values
+-- ---- an array has 1 to 1,024 elements, and a ring 1 to 65,536 values
 
 abbrev pub has_array_length : (List ℕ × ℕ) → Bool
 has_array_length a = nat_le 1 a.1 && nat_le a.1 1024
@@ -335,7 +335,7 @@ abbrev pub lengths_are_in_range : CUnit → Bool
 lengths_are_in_range u =
     list_all has_array_length (arrays_in u.types) && list_all (λ r. nat_le 1 r.len && nat_le r.len 65536) u.rings
 
--- ---- 15: no expression and no constant is higher than 8,192
+-- ---- no expression and no constant is higher than 8,192
 
 abbrev pub has_low_constants : List CDef → CRing → Bool
 has_low_constants ds r = option_map_or (list_all (λ v. nat_le (constant_height v) most_height)) (first_values ds r) true
@@ -345,7 +345,7 @@ heights_are_in_range u =
     each_statement (λ s. list_all (λ e. nat_le (height e) most_height) (expressions_in s)) u
     && list_all (has_low_constants u.types) u.rings
 
--- ---- 16: `cp_storage` and `cp_need` are the unit's storage and weight, and each is an int, as an enumeration constant
+-- ---- `cp_storage` and `cp_need` are the unit's storage and weight, and each is an int, as an enumeration constant
 -- is (6.7.2.2 paragraph 2)
 
 abbrev pub totals_are_right : CUnit → Bool

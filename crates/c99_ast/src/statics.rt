@@ -1,17 +1,18 @@
 // The bytes of a program's static objects.
-ghost use Rattle.std.specs.Prelude.{◌≡◌, ◌+◌, ◌≤◌, IsTrue, IsSome, is_some, MatchOption, length};
-ghost use Rattle.std.specs.List.{find, list_all, sum_by};
+ghost use Rattle.std.specs.Prelude.{◌≡◌, ◌+◌, ◌≤◌, IsTrue, IsSome, is_some, length};
+ghost use Rattle.std.specs.List.{list_all, sum_by};
 ghost use Rattle.c99_ast.specs.Bound.{up_to_bound};
 ghost use Rattle.c99_ast.specs.Words as words;
-ghost use Rattle.c99_ast.specs.Lookup.{fields_of};
 ghost use Rattle.c99_ast.specs.Values.{shape_within, shape_of, shapes_of_fields};
 ghost use Rattle.c99_ast.specs.Storage as spec;
 ghost use Rattle.c99_ast.specs.WellFormed.{types_come_first};
 ghost use Rattle.c99_ast.specs.declared.types.CTy.TheVariants as ty;
 
+use crate::lookup::fields_of;
 use crate::totals::{BOUND, sum, times};
 use crate::types::{CDef, CScalar, CTy, CVar};
 use crate::unit::{CRing, Unit};
+use crate::words::element_scalar;
 use sm_io::Name;
 
 /// The bytes of the unit's static objects, without padding: each ring's values, four more for a ring's index, and a copy
@@ -72,38 +73,6 @@ fn scalar_size(t: CScalar) -> u64
         CScalar::I32 | CScalar::U32 => 4,
         CScalar::I64 | CScalar::U64 => 8,
     }
-}
-
-// The scalar type of an array's elements, where their word is a scalar's.
-fn element_scalar(x: &Name) -> Option<CScalar>
-    ensures { result ≡ find (λ s. words.is_same (words.word_of s) x.now) words.scalars }
-{
-    match x.bytes() {
-        b"Bool" => Some(CScalar::Bool),
-        b"Int8" => Some(CScalar::I8),
-        b"Int16" => Some(CScalar::I16),
-        b"Int32" => Some(CScalar::I32),
-        b"Int64" => Some(CScalar::I64),
-        b"Word8" => Some(CScalar::U8),
-        b"Word16" => Some(CScalar::U16),
-        b"Word32" => Some(CScalar::U32),
-        b"Word64" => Some(CScalar::U64),
-        _ => None,
-    }
-}
-
-// The members of the first struct of this name.
-fn fields_of<'a>(types: &'a [CDef], x: &Name) -> Option<&'a [CVar]>
-    ensures { MatchOption result (fields_of types.now x.now ≡ None) (λ fields. fields_of types.now x.now ≡ Some fields.now) }
-{
-    for def in types {
-        if let CDef::Struct { name, fields } = def {
-            if x.bytes() == name.bytes() {
-                return Some(fields.as_slice());
-            }
-        }
-    }
-    None
 }
 
 // The bytes of a type in which at most `depth` types stand one in another.

@@ -3,3 +3,4 @@ pub mod Feeds
 pub mod Cells
 pub mod Standing
 pub mod RowLines
+pub mod LeafNames

@@ -8,3 +8,4 @@ pub mod Columns
 pub mod Rows
 pub mod Reads
 pub mod Events
+pub mod Leaves

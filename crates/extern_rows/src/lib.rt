@@ -9,6 +9,7 @@ mod fault;
 mod feed;
 mod field;
 mod header;
+mod leaves;
 mod record;
 
 pub use blank::is_blank;
@@ -16,6 +17,7 @@ pub use event::{Piece, event_line};
 pub use fault::RowFault;
 pub use feed::{Feed, Pushed, stands_in_texts};
 pub use header::{Header, Leaf, rows_stand_in_lines};
+pub use leaves::push_leaves;
 
 #[cfg(test)]
 mod tests;

@@ -1,11 +1,12 @@
 // Texts of rows in pieces of several sizes, fields at the ends of their types, and lines of events.
-ghost use Rattle.std.specs.Prelude.{◌≡◌, ◌<◌, false, length};
+ghost use Rattle.std.specs.Prelude.{◌≡◌, ◌<◌, [], ◌∷◌, false, length, IfOk};
+ghost use Rattle.sm_io.specs.Names.{IsNameBytes};
 
-use crate::{Feed, Header, Leaf, Piece, RowFault, event_line, is_blank};
-use sm_io::{Text, VecSink};
+use crate::{Feed, Header, Leaf, Piece, RowFault, event_line, is_blank, push_leaves};
+use sm_io::{Name, Text, VecSink};
 use std::alloc::{AllocError, Global};
 use std::test::Fail;
-use stream_types::Scalar;
+use stream_types::{Field, Scalar, Ty, Types};
 
 const SIZES: [usize; 4] = [1, 2, 3, 4096];
 
@@ -142,6 +143,54 @@ fn reads_arrays_and_structs_by_their_leaves(rt: HostRuntime) -> Result<(), Fail>
     for size in SIZES {
         let told = transcript(alloc, text.as_bytes(), size, &leaves)?;
         assert_eq!(rt; told.as_str(), "1 2 3 4 5 6 2 / 1 2 3 4 5 6 3 / ");
+    }
+    Ok(())
+}
+
+// A field of two bytes.
+fn field(alloc: Global, name: &str) -> Result<Field, AllocError>
+    requires { IsNameBytes name.now }
+    ensures { IfOk result (λ field. field ≡ record { name = name.now; ty = Ty.Scalar Scalar.Int16 }) }
+{
+    Ok(Field {
+        name: Name::new(Vec::from_slice(alloc, name.as_bytes())?),
+        ty: Ty::Scalar(Scalar::Int16),
+    })
+}
+
+fn two_fields(alloc: Global, x: Field, y: Field) -> Result<Vec<Field>, AllocError>
+    ensures { IfOk result (λ fields. fields.items ≡ x ∷ y ∷ []) }
+{
+    let mut fields = Vec::with_capacity(alloc, 2)?;
+    fields.push(x)?;
+    fields.push(y)?;
+    Ok(fields)
+}
+
+#[test]
+fn names_the_leaves_of_arrays_and_structs(rt: HostRuntime) -> Result<(), Fail> {
+    let alloc = rt.alloc();
+    let mut types = Types::new(alloc);
+    let fields = two_fields(alloc, field(alloc, "x")?, field(alloc, "y")?)?;
+    let name = Name::new(Vec::from_slice(alloc, b"P")?);
+    let point = types.add_struct(name, fields)?;
+    let points = types.add_array(point, 3)?;
+    let mut leaves = Vec::new(alloc);
+    push_leaves(alloc, &types, b"p", points, &mut leaves)?;
+    push_leaves(alloc, &types, b"i", Ty::Scalar(Scalar::Word32), &mut leaves)?;
+    let columns: [(&str, Scalar); 7] = [
+        ("p[0].x", Scalar::Int16),
+        ("p[0].y", Scalar::Int16),
+        ("p[1].x", Scalar::Int16),
+        ("p[1].y", Scalar::Int16),
+        ("p[2].x", Scalar::Int16),
+        ("p[2].y", Scalar::Int16),
+        ("i", Scalar::Word32),
+    ];
+    assert_eq!(rt; leaves.len(), columns.len());
+    for (leaf, (name, scalar)) in leaves.iter().zip(columns) {
+        assert!(rt; leaf.name.bytes() == name.as_bytes());
+        assert_eq!(rt; leaf.scalar, scalar);
     }
     Ok(())
 }

@@ -1,0 +1,8 @@
+use Rattle.std.proofs.Common.{◌≡◌, map, drop}
+use Rattle.std.specs.List.{list_any}
+use Rattle.c99_ast.specs.Tree.{statement}
+use Rattle.c99_ast.specs.WellFormed.{is_next_of}
+use Rattle.c99_ast.proofs.order.has_next.Given as goal
+
+abbrev pub invariant-loop-s : goal.invariant-loop-s
+invariant-loop-s l = list_any (is_next_of l.r) (map statement (drop l.s-index l.before)) ≡ list_any (is_next_of l.r) (map statement l.before)
