@@ -1,0 +1,15 @@
+pub mod Value
+pub mod Parts
+pub mod Stored
+pub mod Term
+pub mod Library
+pub mod Eval
+pub mod Handlers
+pub mod Lower
+pub mod Limits
+pub mod Ordered
+pub mod Acyclic
+pub mod Equations
+pub mod Soundness
+pub mod WellTyped
+pub mod Meaning

@@ -1,0 +1,80 @@
+// What is true of every specification over every history.
+ghost use Rattle.std.specs.Prelude.{◌≡◌, ◌↔◌, ◌+◌, ◌≤◌, ℕ, List, [], ◌∷◌, ◌++◌, length, take, slice_get, slice_index_or, int_le, Contains, Some, Ok, IsOk, IsTrue};
+ghost use Rattle.std.specs.List.{AllByRecursion};
+ghost use Rattle.stream_types.specs.declared.scalar.Scalar.{Scalar};
+ghost use Rattle.stream_types.specs.Numbers.{number};
+ghost use Rattle.stream_core.specs.Value.{SpecValue};
+ghost use Rattle.stream_types.specs.declared.scalar.Ty.{Ty};
+ghost use Rattle.stream_core.specs.Term.{Term, TreeDef, TreeSpec, TreeTrigger, defs_of};
+ghost use Rattle.stream_core.specs.Acyclic.{Acyclic, WellFounded};
+ghost use Rattle.stream_core.specs.Soundness.{HasNoRing};
+ghost use Rattle.stream_core.specs.WellTyped.{HasType, WellTyped};
+ghost use Rattle.stream_core.specs.Library.{greatest_word, least_word};
+ghost use Rattle.stream_core.specs.Eval.{Table, or_none};
+ghost use Rattle.stream_core.specs.Equations.{IsFront};
+ghost use Rattle.stream_core.specs.Handlers.{handler_of};
+ghost use Rattle.stream_core.specs.Meaning.{Bounded, Clean, Meets, closed_spec, handlers, log, step, table};
+
+/// The equations of the streams: a stream of `len` initial values has `len + n` values after `n` steps without
+/// hazard, begins with its initial values, and its value `len + t` is its expression at `t`.
+pub fn tables_meet_the_equations()
+    ensures { (s : SpecValue) (h : List (List ℕ)) (n : ℕ) (lists : Table) → Bounded s → table s h n ≡ Ok lists → Meets s h n lists }
+{}
+
+/// Over a clean history any lists that meet the equations are the table.
+pub fn equations_have_one_solution()
+    ensures { (s : SpecValue) (h : List (List ℕ)) (n : ℕ) (lists : Table) → Bounded s → Clean s h n → Meets s h n lists → table s h n ≡ Ok lists }
+{}
+
+/// The values of a stream or an operand stay as steps are added.
+pub fn entries_stay()
+    ensures { (s : SpecValue) (h : List (List ℕ)) (m n : ℕ) (old new : Table) → m ≤ n → table s h m ≡ Ok old → table s h n ≡ Ok new → (k : ℕ) → IsFront (slice_index_or old k []) (slice_index_or new k []) }
+{}
+
+/// A history is clean exactly where each of its steps leaves a table.
+pub fn clean_histories_have_tables()
+    ensures { (s : SpecValue) (h : List (List ℕ)) (n : ℕ) → Clean s h n ↔ ((n ≤ length h) × IsOk (table s h n)) }
+{}
+
+/// The log to a step begins the log to the next one.
+pub fn logs_grow()
+    ensures { (s : SpecValue) (h : List (List ℕ)) (n : ℕ) → log s h (n + 1) ≡ log s h n ++ or_none (step s h n) ∷ [] }
+{}
+
+/// A step depends on the rows up to its own alone.
+pub fn steps_read_rows_so_far()
+    ensures { (s : SpecValue) (h g : List (List ℕ)) (t : ℕ) → take (t + 1) h ≡ take (t + 1) g → step s h t ≡ step s g t }
+{}
+
+/// No two handlers have one name, and a trigger's handler has the trigger's name.
+pub fn handlers_are_named_once()
+    ensures once { (s : SpecValue) (i j : ℕ) (name : List ℕ) → slice_get (handlers s) i ≡ Some name → slice_get (handlers s) j ≡ Some name → i ≡ j }
+    ensures named { (s : SpecValue) (i : ℕ) (x : TreeTrigger) → slice_get (closed_spec s).triggers i ≡ Some x → slice_get (handlers s) (handler_of (closed_spec s) i) ≡ Some x.name }
+{}
+
+/// The greatest word of a window is a sample, and no sample has a greater number.
+pub fn greatest_words_are_greatest()
+    ensures sample { (s : Scalar) (first : ℕ) (rest : List ℕ) → Contains (first ∷ rest) (greatest_word s first rest) }
+    ensures greatest { (s : Scalar) (first : ℕ) (rest : List ℕ) → AllByRecursion (λ w. IsTrue (int_le (number s w) (number s (greatest_word s first rest)))) (first ∷ rest) }
+{}
+
+/// The least word of a window is a sample, and no sample has a smaller number.
+pub fn least_words_are_least()
+    ensures sample { (s : Scalar) (first : ℕ) (rest : List ℕ) → Contains (first ∷ rest) (least_word s first rest) }
+    ensures least { (s : Scalar) (first : ℕ) (rest : List ℕ) → AllByRecursion (λ w. IsTrue (int_le (number s (least_word s first rest)) (number s w))) (first ∷ rest) }
+{}
+
+/// An expression has at most one type.
+pub fn expressions_have_one_type()
+    ensures { (s : TreeSpec) (e : Term) (t u : Ty) → HasType s e t → HasType s e u → t ≡ u }
+{}
+
+/// Where ranks fall along mentions there is no ring of defs.
+pub fn ranks_leave_no_ring()
+    ensures { (defs : List TreeDef) → Acyclic defs → HasNoRing defs }
+{}
+
+/// A well typed specification whose defs have ranks is what `Spec::node` asks for.
+pub fn well_typed_specs_have_trees()
+    ensures { (s : SpecValue) → WellTyped s → Acyclic (defs_of s) → WellFounded s }
+{}
