@@ -17,3 +17,15 @@ pub mod Windows
 pub mod Typing
 pub mod Rings
 pub mod Premises
+pub mod SharedNodes
+pub mod FormWeights
+pub mod Loaded
+pub mod NodeSizes
+pub mod Capped
+pub mod Ranked
+pub mod Mentioned
+pub mod Roots
+pub mod Wide
+pub mod Reading
+pub mod GoodNodes
+pub mod WholeWeight

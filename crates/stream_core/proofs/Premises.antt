@@ -85,7 +85,7 @@ well_founded = record {
   exprs = exprs;
 }
 
-no_types : IsTypeList []
+pub no_types : IsTypeList []
 no_types = record {
   each = λ i e is. absurd (cc);
   narrow = λ i. omega arith;
@@ -101,18 +101,18 @@ typed (suc zero) b = (bool, record { item = _; is = refl; type_is = refl })
 typed (suc (suc zero)) b = (bool, record { item = _; is = refl; type_is = refl })
 typed (suc (suc (suc i))) b = absurd (omega (arith, b))
 
-abbrev first_byte : Option (List ℕ) → ℕ
+abbrev pub first_byte : Option (List ℕ) → ℕ
 first_byte (Some (b ∷ bs)) = b
 first_byte _ = 0
 
-abbrev name_byte : Option TriggerItem → ℕ
+abbrev pub name_byte : Option TriggerItem → ℕ
 name_byte (Some x) = first_byte (Some x.name)
 name_byte None = 0
 
-one : {X : Type 0} (P : X → Type 0) (x : X) → P x → All P (x ∷ [])
+pub one : {X : Type 0} (P : X → Type 0) (x : X) → P x → All P (x ∷ [])
 one P x p = All-cons P x [] p (All-nil P)
 
-two : {X : Type 0} (P : X → Type 0) (x y : X) → P x → P y → All P (x ∷ y ∷ [])
+pub two : {X : Type 0} (P : X → Type 0) (x y : X) → P x → P y → All P (x ∷ y ∷ [])
 two P x y p q = All-cons P x (y ∷ []) p (one P y q)
 
 once : (i j : ℕ) (name : List ℕ) → slice_get (declared_names two_defs) i ≡ Some name → slice_get (declared_names two_defs) j ≡ Some name → i ≡ j

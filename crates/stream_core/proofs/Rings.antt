@@ -24,7 +24,7 @@ each_at P [] all k d b = absurd (omega (arith, b))
 each_at P (x ∷ xs) all zero d b = all.0
 each_at P (x ∷ xs) all (suc k) d b = each_at P xs all.1 k d (omega (arith, b))
 
-each_in : (P : ℕ → Type 0) (xs : List ℕ) (x : ℕ) → AllByRecursion P xs → Contains xs x → P x
+pub each_in : (P : ℕ → Type 0) (xs : List ℕ) (x : ℕ) → AllByRecursion P xs → Contains xs x → P x
 each_in P xs x all c = subst P c.2 (each_at P xs all c.0 x c.1)
 
 module _ (defs : List TreeDef) (rank : ℕ → ℕ) (ranks : Ranks defs rank) where
@@ -41,7 +41,7 @@ no_ring defs acyclic d ring = let p = walk_falls defs acyclic.rank acyclic.ranks
 -- ---- well typed
 
 -- a tree with a type is a node's
-node_there : (s : SpecValue) (i : ℕ) (t : Ty) → WellTyped s → HasType (trees s) (tree s.nodes s.libs i) t → i < length s.nodes
+pub node_there : (s : SpecValue) (i : ℕ) (t : Ty) → WellTyped s → HasType (trees s) (tree s.nodes s.libs i) t → i < length s.nodes
 node_there s i t w has = ⊎_elim (λ b. b) past (cases_lt i (length s.nodes))
   where
     past : length s.nodes ≤ i → i < length s.nodes
@@ -56,7 +56,7 @@ exprs_there s w d x e =
     let good : IsGoodDef (trees s) y = subst (IsGoodDef (trees s)) (get_or_from_slice_get (trees s).defs d y y trees_at) (w.defs d y (slice_get_within (trees s).defs d y trees_at)) in
     node_there s x.expr x.ty w good.expr
 
-defs_there : (s : SpecValue) → WellTyped s → (i : ℕ) (n : Node) → slice_get s.nodes i ≡ Some n → DefsThere s.defs n
+pub defs_there : (s : SpecValue) → WellTyped s → (i : ℕ) (n : Node) → slice_get s.nodes i ≡ Some n → DefsThere s.defs n
 defs_there s w i (node.Def d) e =
     let typed = w.nodes i (slice_get_within s.nodes i (node.Def d) e) in
     let has = subst (λ t. HasType (trees s) t typed.0) (tree_of s.nodes s.libs w.ordered i (node.Def d) e) typed.1 in

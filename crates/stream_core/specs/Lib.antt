@@ -12,4 +12,5 @@ pub mod Acyclic
 pub mod Equations
 pub mod Soundness
 pub mod WellTyped
+pub mod Weights
 pub mod Meaning

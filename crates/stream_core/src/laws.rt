@@ -18,12 +18,19 @@ ghost use Rattle.stream_core.specs.Meaning.{Bounded, Clean, Meets, closed_spec, 
 /// The equations of the streams: a stream of `len` initial values has `len + n` values after `n` steps without
 /// hazard, begins with its initial values, and its value `len + t` is its expression at `t`.
 pub fn tables_meet_the_equations()
-    ensures { (s : SpecValue) (h : List (List ℕ)) (n : ℕ) (lists : Table) → Bounded s → table s h n ≡ Ok lists → Meets s h n lists }
+    ensures typed { (s : SpecValue) (h : List (List ℕ)) (n : ℕ) (lists : Table) → WellTyped s → table s h n ≡ Ok lists → Meets s h n lists }
+    ensures bounded { (s : SpecValue) (h : List (List ℕ)) (n : ℕ) (lists : Table) → Bounded s → table s h n ≡ Ok lists → Meets s h n lists }
 {}
 
 /// Over a clean history any lists that meet the equations are the table.
 pub fn equations_have_one_solution()
-    ensures { (s : SpecValue) (h : List (List ℕ)) (n : ℕ) (lists : Table) → Bounded s → Clean s h n → Meets s h n lists → table s h n ≡ Ok lists }
+    ensures typed { (s : SpecValue) (h : List (List ℕ)) (n : ℕ) (lists : Table) → WellTyped s → Clean s h n → Meets s h n lists → table s h n ≡ Ok lists }
+    ensures bounded { (s : SpecValue) (h : List (List ℕ)) (n : ℕ) (lists : Table) → Bounded s → Clean s h n → Meets s h n lists → table s h n ≡ Ok lists }
+{}
+
+/// A well typed specification reads each stream within its initial values.
+pub fn well_typed_specs_are_bounded()
+    ensures { (s : SpecValue) → WellTyped s → Bounded s }
 {}
 
 /// The values of a stream or an operand stay as steps are added.
@@ -72,6 +79,11 @@ pub fn expressions_have_one_type()
 /// Where ranks fall along mentions there is no ring of defs.
 pub fn ranks_leave_no_ring()
     ensures { (defs : List TreeDef) → Acyclic defs → HasNoRing defs }
+{}
+
+/// Where there is no ring of defs there are ranks that fall along mentions.
+pub fn no_ring_gives_ranks()
+    ensures { (s : SpecValue) → WellTyped s → HasNoRing (defs_of s) → Acyclic (defs_of s) }
 {}
 
 /// A well typed specification whose defs have ranks is what `Spec::node` asks for.

@@ -1,6 +1,9 @@
 // A specification that is made by its calls.
-ghost use Rattle.std.specs.Prelude.{◌≡◌, IfOk};
+ghost use Rattle.std.specs.Prelude.{◌≡◌, [], ◌∷◌, IfOk};
 ghost use Rattle.sm_io.specs.Names.{IsNameBytes};
+ghost use Rattle.stream_core.specs.Soundness.{HasNoRing};
+ghost use Rattle.stream_core.specs.Term.{defs_of};
+ghost use Rattle.stream_core.specs.WellTyped.{WellTyped};
 
 use crate::{
     DefItem, ExternItem, Item, LibForm, LibItem, Node, NodeId, ObserverItem, Root, Spec,
@@ -12,6 +15,8 @@ use std::test::Fail;
 use stream_types::{Op2, Scalar, Ty, Types};
 
 const BOOL: Ty = Ty::Scalar(Scalar::Bool);
+
+const WORD8: Ty = Ty::Scalar(Scalar::Word8);
 
 fn name(alloc: Global, text: &str) -> Result<Name, AllocError>
     requires { IsNameBytes text.now }
@@ -103,5 +108,58 @@ fn observers_and_forms(rt: HostRuntime) -> Result<(), Fail> {
     }))?;
     assert_eq!(rt; spec.observers().len(), 1);
     assert_eq!(rt; spec.libs().len(), 1);
+    Ok(())
+}
+
+fn typed_root(expr: NodeId, ty: Ty) -> Root
+    ensures { result ≡ record { expr = expr; ty = ty; at = 9 } }
+{
+    Root { expr, ty, at: 9 }
+}
+
+// (trigger t GUARD FIRST SECOND)
+fn trigger_over(
+    alloc: Global,
+    guard: NodeId,
+    first: NodeId,
+    second: NodeId,
+) -> Result<TriggerItem, AllocError>
+    ensures { IfOk result (λ t. t ≡ record { name = 116 ∷ []; guard = record { expr = guard; ty = BOOL; at = 9 }; args = record { expr = first; ty = WORD8; at = 9 } ∷ record { expr = second; ty = WORD8; at = 9 } ∷ [] }) }
+{
+    let t = name(alloc, "t")?;
+    let args = vec![in alloc; typed_root(first, WORD8), typed_root(second, WORD8)]?;
+    Ok(TriggerItem {
+        name: t,
+        guard: typed_root(guard, BOOL),
+        args: Seq::of(args),
+    })
+}
+
+// (extern x Word8) (trigger t true (+ x x) (+ x x))
+fn shared_sums(alloc: Global) -> Result<Spec, AllocError>
+    ensures typed { IfOk result (λ s. WellTyped s) }
+    ensures no_ring { IfOk result (λ s. HasNoRing (defs_of s)) }
+{
+    let mut spec = Spec::new(alloc, name(alloc, "s")?, Types::new(alloc));
+    let x_name = name(alloc, "x")?;
+    spec.add(Item::Extern(ExternItem {
+        name: x_name,
+        ty: WORD8,
+    }))?;
+    let yes = spec.place(Node::Lit(Scalar::Bool, 1))?;
+    let x = spec.place(Node::Extern(0))?;
+    let first = spec.place(Node::Bin(Op2::Add, Scalar::Word8, x, x))?;
+    let second = spec.place(Node::Bin(Op2::Add, Scalar::Word8, x, x))?;
+    let trigger = trigger_over(alloc, yes, first, second)?;
+    spec.add(Item::Trigger(trigger))?;
+    Ok(spec)
+}
+
+// A shared node weighs at each use: 1 for the guard and 3 for each argument.
+#[test]
+fn shared_sums_weigh_seven(rt: HostRuntime) -> Result<(), Fail> {
+    let spec = shared_sums(rt.alloc())?;
+    assert_eq!(rt; spec.nodes(), 3);
+    assert_eq!(rt; spec.weight(), 7);
     Ok(())
 }

@@ -1,0 +1,5 @@
+pub mod Going
+pub mod Giving
+pub mod Commas
+pub mod Spelled
+pub mod Rings

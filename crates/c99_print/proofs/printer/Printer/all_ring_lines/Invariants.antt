@@ -1,0 +1,11 @@
+use Rattle.std.proofs.Common.{◌≡◌, take}
+use Rattle.std.specs.List.{flat_map}
+use Rattle.c99_ast.specs.Spelling.{ring_lines}
+use Rattle.c99_print.specs.Goes.{Goes}
+use Rattle.c99_print.proofs.printer.Printer.all_ring_lines.Given as goal
+
+abbrev pub invariant-loop-r : goal.invariant-loop-r
+invariant-loop-r g l = record {
+  goes : Goes l.fn.self.failed (g.K.Sink.taken l.fn.self.sink.now) (g.K.Sink.faults l.fn.self.sink.now) (flat_map (ring_lines l.types) (take l.r-index l.rings)) l.self.failed (g.K.Sink.taken l.self.sink.now) (g.K.Sink.faults l.self.sink.now);
+  same : l.self.sink.ghost_name ≡ l.fn.self.sink.ghost_name;
+}

@@ -1,0 +1,11 @@
+use Rattle.std.proofs.Common.{◌≡◌, take}
+use Rattle.std.specs.List.{flat_map}
+use Rattle.c99_ast.specs.Spelling.{handler_line}
+use Rattle.c99_print.specs.Goes.{Goes}
+use Rattle.c99_print.proofs.printer.Printer.handler_lines.Given as goal
+
+abbrev pub invariant-loop-h : goal.invariant-loop-h
+invariant-loop-h g l = record {
+  goes : Goes l.fn.self.failed (g.K.Sink.taken l.fn.self.sink.now) (g.K.Sink.faults l.fn.self.sink.now) (flat_map handler_line (take l.h-index l.handlers)) l.self.failed (g.K.Sink.taken l.self.sink.now) (g.K.Sink.faults l.self.sink.now);
+  same : l.self.sink.ghost_name ≡ l.fn.self.sink.ghost_name;
+}

@@ -1,0 +1,83 @@
+-- The names of triggers, each once, in the order in which they come first.
+use Rattle.std.proofs.Common.{◌≡◌, ℕ, ◌+◌, ◌<◌, ◌≤◌, Bool, true, false, not, List, [], ◌∷◌, ◌++◌, map, drop, length, get_or, if◌then◌else◌, refl, sym, ap, ◌∙◌, drop-cons, add-one}
+use Rattle.std.proofs.Math.ListN.{drop_of_length-le}
+use Rattle.std.proofs.lemmas.Bool.{not-true, not-false}
+use Rattle.std.specs.Prelude.{nat_eq}
+use Rattle.std.specs.List.{list_any}
+use Rattle.std.specs.Cmp.Lexicographic.{pointwise}
+use Rattle.stream_core.specs.declared.spec.TriggerItem.{TriggerItem}
+use Rattle.stream_core.specs.Term.{Term, TreeTrigger, tree, tree_root, root_with, written_out, defs_of}
+use Rattle.stream_core.specs.Handlers.{handlers_after}
+use Rattle.stream_core.specs.Meaning.{handlers}
+use Rattle.stream_core.specs.Value.{SpecValue}
+use Rattle.c99_ast.specs.declared.types.CProto.{CProto}
+use Rattle.ring_codegen.specs.Generated.{bare_handler}
+
+abbrev pub with_name : List (List ℕ) → List ℕ → List (List ℕ)
+with_name seen name = if list_any (pointwise nat_eq name) seen then seen else seen ++ name ∷ []
+
+abbrev pub names_from : List (List ℕ) → List TriggerItem → List (List ℕ)
+names_from seen [] = seen
+names_from seen (x ∷ xs) = names_from (with_name seen x.name) xs
+
+-- the triggers of a specification whose expressions are trees, the defs written out
+abbrev pub closed_triggers : (ℕ → Term) → (Term → Term) → List TriggerItem → List TreeTrigger
+closed_triggers at out xs =
+    map (λ (x : TreeTrigger). record x { guard = root_with out x.guard; args = map (root_with out) x.args })
+    (map (λ (x : TriggerItem). record { name = x.name; guard = tree_root at x.guard; args = map (tree_root at) x.args }) xs)
+
+handlers-from : (at : ℕ → Term) (out : Term → Term) (seen : List (List ℕ)) (xs : List TriggerItem) → handlers_after seen (closed_triggers at out xs) ≡ names_from seen xs
+handlers-from at out seen [] = refl
+handlers-from at out seen (x ∷ xs) = handlers-from at out (with_name seen x.name) xs
+
+-- the handlers of a specification
+handlers-names : (s : SpecValue) → handlers s ≡ names_from [] s.triggers
+handlers-names s = handlers-from (tree s.nodes s.libs) (written_out (defs_of s)) [] s.triggers
+
+-- ---- a loop over the triggers
+
+-- one trigger more
+next_names : (seen : List (List ℕ)) (xs : List TriggerItem) (i : ℕ) (x : TriggerItem) → i < length xs → x ≡ get_or xs i x → names_from seen (drop i xs) ≡ names_from (with_name seen x.name) (drop (i + 1) xs)
+next_names seen xs i x h is =
+    ap (names_from seen) (drop-cons xs i x h)
+    ∙ ap (λ (k : ℕ). names_from (with_name seen (get_or xs i x).name) (drop k xs)) (sym (add-one i))
+    ∙ ap (λ (y : TriggerItem). names_from (with_name seen y.name) (drop (i + 1) xs)) (sym is)
+
+-- what the loop keeps: the prototypes of the names so far, and which names there will be
+pub record Listed (xs : List TriggerItem) (i : ℕ) (seen : List (List ℕ)) (protos : List CProto) : Type 0 where
+  pub listed : protos ≡ map bare_handler seen
+  pub ahead : names_from seen (drop i xs) ≡ names_from [] xs
+
+-- the names after a name that is new, or one that is there already
+new_name : (seen : List (List ℕ)) (name : List ℕ) (b : Bool) → b ≡ not (list_any (pointwise nat_eq name) seen) → b ≡ true → with_name seen name ≡ seen ++ name ∷ []
+new_name seen name b is new = ap (λ (t : Bool). if t then seen else seen ++ name ∷ []) (not-true (list_any (pointwise nat_eq name) seen) (sym is ∙ new))
+
+old_name : (seen : List (List ℕ)) (name : List ℕ) (b : Bool) → b ≡ not (list_any (pointwise nat_eq name) seen) → b ≡ false → with_name seen name ≡ seen
+old_name seen name b is old = ap (λ (t : Bool). if t then seen else seen ++ name ∷ []) (not-false (list_any (pointwise nat_eq name) seen) (sym is ∙ old))
+
+protos-more : (seen : List (List ℕ)) (name : List ℕ) → map bare_handler seen ++ bare_handler name ∷ [] ≡ map bare_handler (seen ++ name ∷ [])
+protos-more [] name = refl
+protos-more (x ∷ seen) name = ap (λ (r : List CProto). bare_handler x ∷ r) (protos-more seen name)
+
+pub listed_new : (xs : List TriggerItem) (i : ℕ) (seen seen' : List (List ℕ)) (protos protos' : List CProto) (x : TriggerItem) (name : List ℕ) (b : Bool) → Listed xs i seen protos → i < length xs → x ≡ get_or xs i x → name ≡ x.name
+    → b ≡ not (list_any (pointwise nat_eq name) seen) → b ≡ true → seen' ≡ with_name seen name → protos' ≡ protos ++ bare_handler x.name ∷ [] → Listed xs (i + 1) seen' protos'
+listed_new xs i seen seen' protos protos' x name b inv h is named added new keys pushed = record {
+  listed = pushed ∙ ap (λ (r : List CProto). r ++ bare_handler x.name ∷ []) inv.listed ∙ ap (λ (n : List ℕ). map bare_handler seen ++ bare_handler n ∷ []) (sym named) ∙ protos-more seen name ∙ ap (map bare_handler) (sym (keys ∙ new_name seen name b added new));
+  ahead = ap (λ (ns : List (List ℕ)). names_from ns (drop (i + 1) xs)) (keys ∙ ap (with_name seen) named) ∙ sym (next_names seen xs i x h is) ∙ inv.ahead;
+}
+
+pub listed_old : (xs : List TriggerItem) (i : ℕ) (seen seen' : List (List ℕ)) (protos protos' : List CProto) (x : TriggerItem) (name : List ℕ) (b : Bool) → Listed xs i seen protos → i < length xs → x ≡ get_or xs i x → name ≡ x.name
+    → b ≡ not (list_any (pointwise nat_eq name) seen) → b ≡ false → seen' ≡ with_name seen name → protos' ≡ protos → Listed xs (i + 1) seen' protos'
+listed_old xs i seen seen' protos protos' x name b inv h is named added old keys same = record {
+  listed = same ∙ inv.listed ∙ ap (map bare_handler) (sym (keys ∙ old_name seen name b added old));
+  ahead = ap (λ (ns : List (List ℕ)). names_from ns (drop (i + 1) xs)) (keys ∙ ap (with_name seen) named) ∙ sym (next_names seen xs i x h is) ∙ inv.ahead;
+}
+
+-- before the loop
+pub listed_none : (xs : List TriggerItem) (seen : List (List ℕ)) (protos : List CProto) → seen ≡ [] → protos ≡ [] → Listed xs 0 seen protos
+listed_none xs seen protos none_seen none = record { listed = none ∙ ap (map bare_handler) (sym none_seen); ahead = ap (λ (ns : List (List ℕ)). names_from ns xs) none_seen }
+
+-- and behind it
+pub listed_all : (s : SpecValue) (xs : List TriggerItem) (i : ℕ) (seen : List (List ℕ)) (protos : List CProto) → Listed xs i seen protos → length xs ≤ i → xs ≡ s.triggers → protos ≡ map bare_handler (handlers s)
+listed_all s xs i seen protos inv past is =
+    inv.listed ∙ ap (map bare_handler) (ap (names_from seen) (sym (drop_of_length-le xs past)) ∙ inv.ahead ∙ ap (names_from []) is ∙ sym (handlers-names s))

@@ -1,0 +1,10 @@
+pub mod FirstNames
+pub mod Listing
+pub mod Plain
+pub mod Sound
+pub mod Stepping
+pub mod Firing
+pub mod Running
+pub mod Named
+pub mod Simulating
+pub mod Fitting

@@ -1,0 +1,5 @@
+pub mod CTypes
+pub mod Simulation
+pub mod Built
+pub mod Generated
+pub mod Rows

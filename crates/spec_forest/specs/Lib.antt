@@ -1,0 +1,9 @@
+pub mod Node
+pub mod NodeLaws
+pub mod Scan
+pub mod Tokens
+pub mod Sizes
+pub mod Answers
+pub mod Scanning
+pub mod Pieces
+pub mod Layout

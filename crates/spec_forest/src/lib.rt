@@ -1,0 +1,19 @@
+//! A specification's text as a forest of atoms and lists.
+//! In: bytes. Out: the nodes of the text with their places (specs/Tokens.antt says which), or the first fault of
+//! scanning and its place (specs/Scan.antt).
+#![tactic(auto)]
+
+mod fault;
+mod laws;
+mod scan;
+mod tree;
+
+pub use fault::ScanFault;
+pub use laws::{
+    layouts_are_read, pages_are_read, pieces_are_read, shapes_have_one_size, text_has_one_forest,
+};
+pub use scan::trees;
+pub use tree::{Forest, Tree};
+
+#[cfg(test)]
+mod tests;
