@@ -1,0 +1,10 @@
+pub mod Orders
+pub mod Decimals
+pub mod Counts
+pub mod Bounds
+pub mod Found
+pub mod Heads
+pub mod Measures
+pub mod Along
+pub mod Literals
+pub mod Bares

@@ -1,0 +1,13 @@
+pub mod Words
+pub mod Numbers
+pub mod Sizes
+pub mod Form
+pub mod Shape
+pub mod FirstFault
+pub mod Kept
+pub mod Holds
+pub mod Bare
+pub mod Canonical
+pub mod FormLaws
+pub mod KeptLaws
+pub mod Extent
