@@ -1,0 +1,12 @@
+use Rattle.std.proofs.Common.{◌≡◌, ◌++◌, take, codes}
+use Rattle.std.specs.List.{flat_map}
+use Rattle.spec_text.specs.Form.{form_of_expr}
+use Rattle.spec_text.specs.Canonical.{text}
+use Rattle.spec_print.specs.Goes.{Goes}
+use Rattle.spec_print.proofs.printer.Printer.+printing.Given as goal
+
+abbrev pub invariant-parts-loop-e : goal.invariant-parts-loop-e
+invariant-parts-loop-e g l = record {
+  goes : Goes l.initial.self.failed (g.K.Sink.taken l.initial.self.sink.now) (g.K.Sink.faults l.initial.self.sink.now) (flat_map (λ x. codes " " ++ text (form_of_expr x)) (take l.e-index l.all)) l.self.failed (g.K.Sink.taken l.self.sink.now) (g.K.Sink.faults l.self.sink.now);
+  same : l.self.sink.ghost_name ≡ l.initial.self.sink.ghost_name;
+}
