@@ -3,7 +3,10 @@ ghost use Rattle.sm_io.specs.Names.{IsNameBytes};
 
 use super::write_text;
 use sm_io::{MemSink, Name, Seq, VecSink};
-use spec_text::{ConstForm, Decl, Expr, FieldForm, NameAt, Surface, TypeForm};
+use spec_text::{
+    ConstForm, Decl, Expr, FieldForm, NameAt, ScanFault, ShapeFault, Surface, TypeForm,
+    declarations, trees,
+};
 use sqlite_items::{Boxed, Items};
 use std::alloc::Global;
 use std::process::Abort;
@@ -342,4 +345,41 @@ fn a_fault_ends_the_text(rt: HostRuntime) -> Result<(), Fail> {
     assert!(rt; write_text(&surface, &mut sink).is_err());
     assert_eq!(rt; sink.taken(), b"(spec".as_slice());
     Ok(())
+}
+
+const HEATER: &[u8] =
+    b"(spec heater\n  (extern temp Int32)\n  (trigger heat (< temp 18:Int32) temp))\n";
+
+// What the two readers answer for a text.
+#[derive(Debug, PartialEq, Drop)]
+enum Answer {
+    Read,
+    Unbalanced(u64),
+    BadForm(u64),
+    Other,
+}
+
+fn read(alloc: Global, text: &[u8]) -> Answer {
+    let forest = match trees(alloc, text) {
+        Ok(forest) => forest,
+        Err(ScanFault::Unbalanced(at)) => return Answer::Unbalanced(at),
+        Err(_) => return Answer::Other,
+    };
+    match declarations(alloc, &forest) {
+        Ok(_) => Answer::Read,
+        Err(ShapeFault::BadForm(at)) => Answer::BadForm(at),
+        Err(_) => Answer::Other,
+    }
+}
+
+// The text of a heater, cut off behind each of its bytes.
+#[test]
+fn a_cut_text_is_refused(rt: HostRuntime) {
+    let alloc = rt.alloc();
+    assert_eq!(rt; read(alloc, b""), Answer::BadForm(0));
+    for k in 1..75 {
+        assert_eq!(rt; read(alloc, &HEATER[..k]), Answer::Unbalanced(k as u64));
+    }
+    assert_eq!(rt; read(alloc, &HEATER[..75]), Answer::Read);
+    assert_eq!(rt; read(alloc, HEATER), Answer::Read);
 }
