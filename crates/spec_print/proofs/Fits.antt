@@ -83,14 +83,14 @@ drop-front : (xs ys : List ℕ) → drop (suc (length xs)) (xs ++ 58 ∷ ys) ≡
 drop-front [] ys = refl
 drop-front (x ∷ xs) ys = drop-front xs ys
 
-number-parts : (front ys : List ℕ) → list_any is_colon front ≡ false → number_of (front ++ 58 ∷ ys) ≡ option_and_then (typed front) (scalar_of ys)
+pub number-parts : (front ys : List ℕ) → list_any is_colon front ≡ false → number_of (front ++ 58 ∷ ys) ≡ option_and_then (typed front) (scalar_of ys)
 number-parts front ys h =
     let next : length front + 1 ≡ suc (length front) = omega arith in
     rw (position-at front ys h, take-front front ys, next, drop-front front ys) refl
 
 -- ---- literals
 
-scalar-read : (s : Scalar) → scalar_of (scalar_word s) ≡ Some s
+pub scalar-read : (s : Scalar) → scalar_of (scalar_word s) ≡ Some s
 unfolding scalar_of
 scalar-read scalar.Bool = refl
 scalar-read scalar.Int8 = refl
@@ -108,7 +108,7 @@ no-colon-digit b h =
     let e : (b == 58) ≡ false = grind (arith, nat_tests, p.1) in
     rw e refl
 
-none-of : (xs : List ℕ) → list_all (λ b. not (is_colon b)) xs ≡ true → list_any is_colon xs ≡ false
+pub none-of : (xs : List ℕ) → list_all (λ b. not (is_colon b)) xs ≡ true → list_any is_colon xs ≡ false
 none-of [] h = refl
 none-of (x ∷ xs) h =
     let p = and_parts (not (is_colon x)) (list_all (λ b. not (is_colon b)) xs) h in
@@ -119,9 +119,9 @@ decimal-plain : (n : ℕ) → n < 2 ^ 64 → list_any is_colon (decimal n) ≡ f
 decimal-plain n small = none-of (decimal n) (all-weaker is_digit (λ b. not (is_colon b)) no-colon-digit (decimal n) (digits_decimal own n small))
 
 -- the number of a word, as it is written and read
-record IsRead (sign : Bool) (w : ℕ) : Type 0 where
-  plain : list_any is_colon (number_text sign w) ≡ false
-  number : integer_of (number_text sign w) ≡ Some (number_at sign w)
+pub record IsWritten (sign : Bool) (w : ℕ) : Type 0 where
+  pub plain : list_any is_colon (number_text sign w) ≡ false
+  pub number : integer_of (number_text sign w) ≡ Some (number_at sign w)
 
 signed-read : (n : ℕ) (z : ℤ) → n ≤ 64 → in_range n true z ≡ true → (list_any is_colon (signed_decimal z) ≡ false) × (integer_of (signed_decimal z) ≡ Some z)
 signed-read n (pos m) b h =
@@ -133,7 +133,7 @@ signed-read n (negsuc m) b h =
     let q : suc m < 2 ^ 64 = omega (arith, p) in
     (decimal-plain (suc m) q, integer-signed (negsuc m) m refl q)
 
-number-read : (n w : ℕ) (sign : Bool) → n ≤ 64 → is_word_at n sign w ≡ true → IsRead sign w
+pub number-read : (n w : ℕ) (sign : Bool) → n ≤ 64 → is_word_at n sign w ≡ true → IsWritten sign w
 number-read n w true b h =
     let p = signed-read n (number_at true w) b (and_parts (nat_lt w (2 ^ 64)) (in_range n true (number_at true w)) h).1 in
     record { plain = p.0; number = p.1 }
@@ -155,7 +155,7 @@ either-true : (a b : Bool) → b ≡ true → (a || b) ≡ true
 either-true true b h = refl
 either-true false b h = h
 
-has-colon : (xs ys : List ℕ) → list_any is_colon (xs ++ 58 ∷ ys) ≡ true
+pub has-colon : (xs ys : List ℕ) → list_any is_colon (xs ++ 58 ∷ ys) ≡ true
 has-colon [] ys = refl
 has-colon (x ∷ xs) ys = either-true (is_colon x) (list_any is_colon (xs ++ 58 ∷ ys)) (has-colon xs ys)
 
@@ -212,7 +212,7 @@ no-colon-case : (b : ℕ) (c : Bool) → is_colon b ≡ c → is_name_byte b ≡
 no-colon-case b true e h = absurd (true≢false (sym (subst (λ x. is_name_byte x ≡ true) (eqb-true b 58 e) h)))
 no-colon-case b false e h = refl
 
-no-colon-name : (b : ℕ) → is_name_byte b ≡ true → not (is_colon b) ≡ true
+pub no-colon-name : (b : ℕ) → is_name_byte b ≡ true → not (is_colon b) ≡ true
 no-colon-name b h = no-colon-case b (is_colon b) refl h
 
 above : (b : ℕ) → names.is_letter b ≡ true → 65 ≤ b

@@ -189,7 +189,7 @@ const-fits = ind-ConstForm ConstFits (λ x y is. subst (λ z. ConstFits (roll-Co
 
 -- ---- expressions
 
-head-read : (h : Head) → head_of (head_word h) ≡ Some h
+pub head-read : (h : Head) → head_of (head_word h) ≡ Some h
 unfolding head_of
 head-read head.Drop = refl
 head-read head.If = refl
@@ -400,7 +400,7 @@ decl-fits version (d.Observer at x e) k =
 
 -- ---- the whole
 
-version-read : (v : ℕ) → (v == 1 || v == 2) ≡ true → version_of (spec_word v) ≡ Some v
+pub version-read : (v : ℕ) → (v == 1 || v == 2) ≡ true → version_of (spec_word v) ≡ Some v
 version-read v h = either (v == 1) (v == 2) (λ e. subst (λ (n : ℕ). version_of (spec_word n) ≡ Some n) (sym (eqb-true v 1 e)) refl) (λ e. subst (λ (n : ℕ). version_of (spec_word n) ≡ Some n) (sym (eqb-true v 2 e)) refl) h
 
 at-top : (text : List ℕ) (ps : Nodes) (all : Items) → headed_items top text ps ≡ Some all → fault_in top (list 0 (more_node (atom 0 text) ps)) ≡ faults_of 0 all ps

@@ -6,3 +6,9 @@ pub mod Scanned
 pub mod Fits
 pub mod Placed
 pub mod KeptFits
+pub mod Read
+pub mod ReadWords
+pub mod ReadParts
+pub mod ReadForms
+pub mod ReadExprs
+pub mod ReadDecls

@@ -28,3 +28,8 @@ pub fn canonical_text_is_read()
     ensures form { (s : Surface) → KeepsTable s → nesting (form_of s) ≤ 64 → length (canonical s) ≤ 1048576 → (forest : Forest) → IsForestOf (canonical s) (forest_nodes forest) → (t : Surface) → IsSurfaceOf forest t → bare (form_of t) ≡ bare (form_of s) }
     ensures text { (s : Surface) → KeepsTable s → nesting (form_of s) ≤ 64 → length (canonical s) ≤ 1048576 → (forest : Forest) → IsForestOf (canonical s) (forest_nodes forest) → (t : Surface) → IsSurfaceOf forest t → canonical t ≡ canonical s }
 {}
+
+/// A forest is the form of at most one surface that keeps the table, places included.
+pub fn forest_has_one_surface()
+    ensures { (forest : Forest) (s t : Surface) → IsSurfaceOf forest s → IsSurfaceOf forest t → KeepsTable s → KeepsTable t → s ≡ t }
+{}

@@ -13,7 +13,7 @@ mod surface;
 mod types;
 mod words;
 
-pub use laws::{canonical_text_is_read, kept_surfaces_fit};
+pub use laws::{canonical_text_is_read, forest_has_one_surface, kept_surfaces_fit};
 pub use surface::write_text;
 
 #[cfg(test)]

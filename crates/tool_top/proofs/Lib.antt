@@ -1,4 +1,7 @@
-pub mod Fronts
-pub mod ThinTexts
 pub mod Words
-pub mod Compiling
+pub mod ThinSound
+pub mod Building
+pub mod Programs
+pub mod Stopping
+pub mod OneFault
+pub mod Settled

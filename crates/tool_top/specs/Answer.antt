@@ -1,15 +1,17 @@
 -- What the top call answers, and the files that each answer leaves.
-use Rattle.std.specs.Prelude.{◌≡◌, ℕ, ◌⊎◌, List, Option, Some, None, Result, Ok, Err, IsTrue}
+use Rattle.std.specs.Prelude.{◌≡◌, ℕ, ◌⊎◌, List, Option, Some, None, Result, Ok, Err}
 use Rattle.sm_io.specs.Files.{Files, with_file, SameBut}
 use Rattle.sm_io.specs.Fetch.{fetched}
 use Rattle.sm_io.specs.declared.outside.FetchFault.{FetchFault}
 use Rattle.sm_io.specs.declared.outside.FetchFault.TheVariants as fetch
-use Rattle.tool_top.specs.Thin.{thin_text, is_thin}
-use Rattle.tool_top.specs.Texts.{header_text, source_text}
-use Rattle.tool_top.specs.Command.{CommandValue, compile, unbuilt, header_file, source_file}
-use Rattle.tool_top.specs.declared.thin.Thin.{Thin}
+use Rattle.stream_core.specs.Value.{SpecValue}
+use Rattle.c99_ast.specs.declared.unit.Unit.{Unit as CUnit}
+use Rattle.c99_ast.specs.Spelling.{Spells}
+use Rattle.ring_codegen.specs.Simulation.{Simulates}
+use Rattle.tool_top.specs.Analysis.{Means, HasFirstFault, too_long, nowhere}
+use Rattle.tool_top.specs.Command.{CommandValue, compile, unbuilt, no_command, header_file, source_file}
 use Rattle.tool_top.specs.declared.outcome.Outcome.{Outcome}
-use Rattle.tool_top.specs.declared.outcome.Outcome.TheVariants.{Done, Refused, ReadFault, WriteFault, Missing, NoMemory}
+use Rattle.tool_top.specs.declared.outcome.Outcome.TheVariants.{Done, Refused, Usage, ReadFault, WriteFault, Missing, NoMemory}
 use Rattle.tool_top.specs.declared.outcome.Refusal.{Refusal}
 use Rattle.tool_top.specs.declared.outcome.RefusalKind.TheVariants as kind
 
@@ -23,25 +25,17 @@ text_limit = 1048576
 abbrev pub text_of : List ℕ → Files → Result (List ℕ) FetchFault
 text_of file files = fetched files file text_limit
 
--- No thin specification has this text.
-abbrev pub IsNotThin : List ℕ → Type 0
-IsNotThin text = (t : Thin) → IsTrue (is_thin t) → text ≡ thin_text t → ⊥
+-- the file's text stands for this specification
+pub record IsSource (file : List ℕ) (files : Files) (s : SpecValue) : Type 0 where
+  pub text : List ℕ
+  pub text_is : text_of file files ≡ Ok text
+  pub means : Means text s
 
--- the thin specification whose text the file has
-abbrev pub IsSource : List ℕ → Files → Thin → Type 0
-IsSource file files t = IsTrue (is_thin t) × (text_of file files ≡ Ok (thin_text t))
-
-abbrev pub too_long : Refusal
-too_long = record { kind = kind.TextTooLong; item = 0; at = 0 }
-
-abbrev pub not_yet : Refusal
-not_yet = record { kind = kind.NotYet; item = 0; at = 0 }
-
--- A file's content is refused so: it is too long, or no form that is built.
+-- A file's content is refused so: it is too long, or its text has this first fault.
 abbrev pub IsRefusedFor : Refusal → Result (List ℕ) FetchFault → Type 0
 IsRefusedFor refusal (Err fetch.TooLong) = refusal ≡ too_long
 IsRefusedFor refusal (Err fault) = ⊥
-IsRefusedFor refusal (Ok text) = (refusal ≡ not_yet) × IsNotThin text
+IsRefusedFor refusal (Ok text) = HasFirstFault text refusal
 
 -- How a run over a file stops before it puts anything. A read fault's cause is a clause of its own, and want of memory
 -- is free.
@@ -54,28 +48,50 @@ MayStop file files _ = ⊥
 
 -- ---- compile
 
+-- Two texts spell exactly one program, which is well formed, has this name and does what a specification means.
+pub record IsProgramOf (means : SpecValue) (name header source : List ℕ) : Type 0 where
+  pub program : CUnit
+  pub simulates : Simulates means name program
+  pub spelled : Spells program header source
+  pub only : (u : CUnit) → Spells u header source → u ≡ program
+
+-- The text stands for a specification, and the two texts are such a program of it.
+pub record IsProgramFor (text name header source : List ℕ) : Type 0 where
+  pub means : SpecValue
+  pub source_is : Means text means
+  pub program : IsProgramOf means name header source
+
+-- The texts are such a program for the file's text.
+pub record IsCompiled (spec name : List ℕ) (files : Files) (header source : List ℕ) : Type 0 where
+  pub text : List ℕ
+  pub text_is : text_of spec files ≡ Ok text
+  pub program : IsProgramFor text name header source
+
 -- The told files with the two texts.
-abbrev pub both_files : List ℕ → Thin → Option Files → Option Files
-both_files name t files = with_file (with_file files (header_file name) (header_text name t)) (source_file name) (source_text name t)
+abbrev pub both_files : List ℕ → List ℕ → List ℕ → Option Files → Option Files
+both_files name header source files = with_file (with_file files (header_file name) header) (source_file name) source
 
 -- One of the two puts failed: its file is unknown, an earlier one has its text, and all other names are as before.
-abbrev pub OnePutFailed : List ℕ → Thin → Option Files → Option Files → Type 0
-OnePutFailed name t old new =
-    SameBut (header_file name) old new ⊎ SameBut (source_file name) (with_file old (header_file name) (header_text name t)) new
+abbrev pub OnePutFailed : List ℕ → List ℕ → Option Files → Option Files → Type 0
+OnePutFailed name header old new =
+    SameBut (header_file name) old new ⊎ SameBut (source_file name) (with_file old (header_file name) header) new
 
 -- What a compile answers, and the files that it then leaves.
 abbrev pub Compiles : List ℕ → List ℕ → Files → Option Files → Outcome → Type 0
-Compiles spec name files new Done = (t : Thin) × IsSource spec files t × (new ≡ both_files name t (Some files))
-Compiles spec name files new WriteFault = (t : Thin) × IsSource spec files t × OnePutFailed name t (Some files) new
+Compiles spec name files new Done =
+    (header source : List ℕ) × IsCompiled spec name files header source × (new ≡ both_files name header source (Some files))
+Compiles spec name files new WriteFault =
+    (header source : List ℕ) × IsCompiled spec name files header source × OnePutFailed name header (Some files) new
 Compiles spec name files new outcome = MayStop spec files outcome × (new ≡ Some files)
 
 -- ---- every command
 
--- What a run answers, and the files that it then leaves. Words of no command that is built are refused before
--- anything is read.
+-- What a run answers, and the files that it then leaves. A command that isn't built is refused, and words of no
+-- command are told the usage, before anything is read.
 abbrev pub Runs : CommandValue → Files → Option Files → Outcome → Type 0
 Runs (compile spec name) files new outcome = Compiles spec name files new outcome
-Runs unbuilt files new outcome = (outcome ≡ Refused not_yet) × (new ≡ Some files)
+Runs unbuilt files new outcome = (outcome ≡ Refused (nowhere kind.NotYet)) × (new ≡ Some files)
+Runs no_command files new outcome = (outcome ≡ Usage) × (new ≡ Some files)
 
 -- All was done, or memory ran out.
 abbrev pub IsFinished : Outcome → Type 0
@@ -83,11 +99,12 @@ IsFinished Done = Unit {0}
 IsFinished NoMemory = Unit {0}
 IsFinished _ = ⊥
 
--- A thin text is compiled, where no count rose and memory was found.
+-- A text without a fault is compiled, where no count rose and memory was found.
 abbrev pub Completes : CommandValue → Option Files → Outcome → Type 0
 Completes (compile spec name) None outcome = Unit {0}
-Completes (compile spec name) (Some m) outcome = (t : Thin) → IsSource spec m t → IsFinished outcome
+Completes (compile spec name) (Some m) outcome = (s : SpecValue) → IsSource spec m s → IsFinished outcome
 Completes unbuilt files outcome = Unit {0}
+Completes no_command files outcome = Unit {0}
 
 -- an answer that is neither a fault of the outside nor want of memory
 abbrev pub IsSettled : Outcome → Type 0

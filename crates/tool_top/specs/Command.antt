@@ -1,9 +1,10 @@
 -- The command table: which words are which command.
-use Rattle.std.specs.Prelude.{ℕ, Bool, ◌&&◌, ◌||◌, ◌==◌, not, nat_le, nat_eq, if◌then◌else◌, List, [], ◌∷◌, ◌++◌, length, drop, codes}
-use Rattle.std.specs.List.{list_all, starts_with}
+use Rattle.std.specs.Prelude.{ℕ, Bool, ◌&&◌, ◌||◌, ◌==◌, not, nat_le, nat_eq, if◌then◌else◌, List, [], ◌∷◌, ◌++◌, length, drop, codes, IsTrue}
+use Rattle.std.specs.List.{list_all, list_any, starts_with}
 use Rattle.std.specs.Cmp.Lexicographic.{pointwise}
 use Rattle.sm_io.specs.Names.{is_name_byte}
 use Rattle.sm_io.specs.Words.{is_name, has_front}
+use Rattle.spec_text.specs.Numbers.{is_decimal, value_of}
 use Rattle.tool_top.specs.declared.outcome.Tool.{Tool}
 use Rattle.tool_top.specs.declared.outcome.Tool.TheVariants.{Copilot, Ogma}
 use Rattle.tool_top.specs.declared.command.Command.{Command}
@@ -28,34 +29,102 @@ is_file word = nat_le 1 (length word) && nat_le (length word) 255 && list_all is
 abbrev pub is_file_of : List ℕ → List ℕ → List ℕ → Bool
 is_file_of file name end = starts_with nat_eq file name && pointwise nat_eq (drop (length name) file) end
 
+-- a file is none of those with this name and one of these endings
+abbrev pub is_apart : List (List ℕ) → List ℕ → List ℕ → Bool
+is_apart ends file name = not (list_any (is_file_of file name) ends)
+
+-- one word is the other
+abbrev pub is_word : List ℕ → List ℕ → Bool
+is_word word wanted = pointwise nat_eq word wanted
+
+-- a decimal without leading zeros, from the one number to the other
+abbrev pub is_number : ℕ → ℕ → List ℕ → Bool
+is_number least most word = is_decimal word && nat_le least (value_of word) && nat_le (value_of word) most
+
 -- a command with its words
 pub data CommandValue : Type 0 where
   compile : (spec name : List ℕ) → CommandValue
-  -- words of a command that isn't built, or of none
+  -- a row of the table whose command isn't built
   unbuilt : CommandValue
+  -- words of no row
+  no_command : CommandValue
 
 -- a command as clauses see it
-abbrev pub value_of : Command → CommandValue
-value_of (command.Compile spec name) = compile spec.now name.now
-value_of command.Unbuilt = unbuilt
+abbrev pub value_of_command : Command → CommandValue
+value_of_command (command.Compile spec name) = compile spec.now name.now
+value_of_command command.Unbuilt = unbuilt
+value_of_command command.NoCommand = no_command
+
+-- the unit that a compile makes has a name
+abbrev pub HasName : CommandValue → Type 0
+HasName (compile spec name) = IsTrue (is_name name)
+HasName _ = Unit {0}
+
+-- ---- the rows of `copilot`
 
 -- `compile SPEC NAME`, where SPEC is neither of the files that are written
-abbrev pub is_apart : List ℕ → List ℕ → Bool
-is_apart spec name = not (is_file_of spec name (codes ".h")) && not (is_file_of spec name (codes ".c"))
+abbrev pub compile_ends : List (List ℕ)
+compile_ends = codes ".h" ∷ codes ".c" ∷ []
 
 abbrev pub is_compile : List ℕ → List ℕ → List ℕ → Bool
-is_compile word spec name = pointwise nat_eq word (codes "compile") && is_file spec && is_name name && is_apart spec name
+is_compile word spec name = is_word word (codes "compile") && is_file spec && is_name name && is_apart compile_ends spec name
+
+-- `interpret SPEC`
+abbrev pub is_interpret : List ℕ → List ℕ → Bool
+is_interpret word spec = is_word word (codes "interpret") && is_file spec
+
+-- `cexec NAME`
+abbrev pub is_cexec : List ℕ → List ℕ → Bool
+is_cexec word name = is_word word (codes "cexec") && is_name name
+
+-- `demo K T`: 1 to 1,000 streams, and at most 1,000,000 steps
+abbrev pub is_demo : List ℕ → List ℕ → List ℕ → Bool
+is_demo word streams steps = is_word word (codes "demo") && is_number 1 1000 streams && is_number 0 1000000 steps
+
+-- `migrate OLD NEW`, two names that differ
+abbrev pub is_migrate : List ℕ → List ℕ → List ℕ → Bool
+is_migrate word old new = is_word word (codes "migrate") && is_name old && is_name new && not (is_word old new)
 
 abbrev pub copilot_command : List (List ℕ) → CommandValue
-copilot_command (word ∷ spec ∷ name ∷ []) = if is_compile word spec name then compile spec name else unbuilt
-copilot_command _ = unbuilt
+copilot_command (word ∷ a ∷ []) = if is_interpret word a || is_cexec word a then unbuilt else no_command
+copilot_command (word ∷ a ∷ b ∷ []) =
+    if is_compile word a b then compile a b else if is_demo word a b || is_migrate word a b then unbuilt else no_command
+copilot_command _ = no_command
+
+-- ---- the rows of `ogma`
+
+-- `standalone REQS SPEC`, two files that differ
+abbrev pub is_standalone : List ℕ → List ℕ → List ℕ → Bool
+is_standalone word reqs spec = is_word word (codes "standalone") && is_file reqs && is_file spec && not (is_word reqs spec)
+
+-- `cfs REQS NAME`, `ros REQS NAME`, `fprime REQS NAME`, where REQS is none of the files that are written
+abbrev pub is_frame : List ℕ → List (List ℕ) → List ℕ → List ℕ → List ℕ → Bool
+is_frame wanted ends word reqs name = is_word word wanted && is_file reqs && is_name name && is_apart ends reqs name
+
+abbrev pub cfs_ends : List (List ℕ)
+cfs_ends = codes ".spec" ∷ codes "_app.c" ∷ []
+
+abbrev pub ros_ends : List (List ℕ)
+ros_ends = codes ".spec" ∷ codes "_node.cpp" ∷ []
+
+abbrev pub fprime_ends : List (List ℕ)
+fprime_ends = codes ".spec" ∷ codes ".fpp" ∷ codes "_fprime.cpp" ∷ []
+
+abbrev pub is_application : List ℕ → List ℕ → List ℕ → Bool
+is_application word reqs name =
+    is_frame (codes "cfs") cfs_ends word reqs name || is_frame (codes "ros") ros_ends word reqs name
+    || is_frame (codes "fprime") fprime_ends word reqs name
+
+abbrev pub ogma_command : List (List ℕ) → CommandValue
+ogma_command (word ∷ a ∷ b ∷ []) = if is_standalone word a b || is_application word a b then unbuilt else no_command
+ogma_command _ = no_command
 
 -- the command that a tool's words are
 abbrev pub command_of : Tool → List (List ℕ) → CommandValue
 command_of Copilot words = copilot_command words
-command_of Ogma words = unbuilt
+command_of Ogma words = ogma_command words
 
 -- the file that a command reads
 abbrev pub file_word : CommandValue → List ℕ
 file_word (compile spec name) = spec
-file_word unbuilt = []
+file_word _ = []

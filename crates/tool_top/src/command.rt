@@ -1,8 +1,10 @@
 // The words of a run, and the command that they are.
-ghost use Rattle.std.specs.Prelude.{◌≡◌, map, string_bytes};
-ghost use Rattle.tool_top.specs.Command.{value_of, copilot_command, command_of, is_compile, is_file, is_file_byte, is_file_of, is_apart};
+ghost use Rattle.std.specs.Prelude.{◌≡◌, ◌||◌, [], ◌∷◌, map, string_bytes, codes, IsTrue};
 ghost use Rattle.std.specs.List.{list_all};
+ghost use Rattle.sm_io.specs.Words.{is_name};
+ghost use Rattle.tool_top.specs.Command.{value_of_command, HasName, copilot_command, ogma_command, command_of, is_compile, is_interpret, is_cexec, is_demo, is_migrate, is_standalone, is_frame, cfs_ends, ros_ends, fprime_ends, is_application, is_file, is_file_byte, is_file_of, is_apart, is_word};
 
+use crate::numbers::is_number;
 use crate::outcome::Tool;
 use sm_io::is_name;
 
@@ -11,8 +13,10 @@ use sm_io::is_name;
 pub enum Command<'a> {
     /// The file of a specification, and the name of the unit that it becomes.
     Compile { spec: &'a str, name: &'a str },
-    /// The words of a command that isn't built, or of none.
+    /// A row of the command table whose command isn't built.
     Unbuilt,
+    /// Words of no row.
+    NoCommand,
 }
 
 fn is_file_byte(b: u8) -> bool
@@ -58,21 +62,33 @@ fn is_file_of(file: &[u8], name: &[u8], end: &[u8]) -> bool
     file.starts_with(name) && &file[name.len()..] == end
 }
 
-// Tells whether a specification's file is neither of those that a compile writes.
-fn is_apart(spec: &[u8], name: &[u8]) -> bool
-    ensures { result ≡ is_apart spec.now name.now }
+// Tells whether a file is none of those with a name and one of the endings.
+fn is_apart(ends: &[&[u8]], file: &[u8], name: &[u8]) -> bool
+    ensures { result ≡ is_apart (map (λ end. end.now) ends.now) file.now name.now }
 {
-    if is_file_of(spec, name, b".h") {
-        return false;
+    for end in ends {
+        if is_file_of(file, name, end) {
+            return false;
+        }
     }
-    !is_file_of(spec, name, b".c")
+    true
 }
 
-// Tells whether three words are a compile.
-fn is_compile(word: &[u8], spec: &[u8], name: &[u8]) -> bool
-    ensures { result ≡ is_compile word.now spec.now name.now }
+// Tells whether a word is the one that is wanted.
+fn is_word(word: &[u8], wanted: &[u8]) -> bool
+    ensures { result ≡ is_word word.now wanted.now }
 {
-    if word != b"compile".as_slice() {
+    word == wanted
+}
+
+// ---- the rows of `copilot`
+
+// Tells whether three words are a compile. The file is neither of those that are written.
+fn is_compile(word: &[u8], spec: &[u8], name: &[u8]) -> bool
+    ensures value { result ≡ is_compile word.now spec.now name.now }
+    ensures named { IsTrue result → IsTrue (is_name name.now) }
+{
+    if !is_word(word, b"compile") {
         return false;
     }
     if !is_file(spec) {
@@ -81,33 +97,218 @@ fn is_compile(word: &[u8], spec: &[u8], name: &[u8]) -> bool
     if !is_name(name) {
         return false;
     }
-    is_apart(spec, name)
+    is_apart(&[b".h", b".c"], spec, name)
+}
+
+fn is_interpret(word: &[u8], spec: &[u8]) -> bool
+    ensures { result ≡ is_interpret word.now spec.now }
+{
+    if !is_word(word, b"interpret") {
+        return false;
+    }
+    is_file(spec)
+}
+
+fn is_cexec(word: &[u8], name: &[u8]) -> bool
+    ensures { result ≡ is_cexec word.now name.now }
+{
+    if !is_word(word, b"cexec") {
+        return false;
+    }
+    is_name(name)
+}
+
+fn is_demo(word: &[u8], streams: &[u8], steps: &[u8]) -> bool
+    ensures { result ≡ is_demo word.now streams.now steps.now }
+{
+    if !is_word(word, b"demo") {
+        return false;
+    }
+    if !is_number(1, 1_000, streams) {
+        return false;
+    }
+    is_number(0, 1_000_000, steps)
+}
+
+fn is_migrate(word: &[u8], old: &[u8], new: &[u8]) -> bool
+    ensures { result ≡ is_migrate word.now old.now new.now }
+{
+    if !is_word(word, b"migrate") {
+        return false;
+    }
+    if !is_name(old) {
+        return false;
+    }
+    if !is_name(new) {
+        return false;
+    }
+    !is_word(old, new)
+}
+
+// Tells whether two words are a row whose command isn't built.
+fn is_unbuilt_pair(word: &[u8], a: &[u8]) -> bool
+    ensures { result ≡ is_interpret word.now a.now || is_cexec word.now a.now }
+{
+    if is_interpret(word, a) {
+        return true;
+    }
+    is_cexec(word, a)
+}
+
+// Tells whether three words are a row whose command isn't built.
+fn is_unbuilt_triple(word: &[u8], a: &[u8], b: &[u8]) -> bool
+    ensures { result ≡ is_demo word.now a.now b.now || is_migrate word.now a.now b.now }
+{
+    if is_demo(word, a, b) {
+        return true;
+    }
+    is_migrate(word, a, b)
+}
+
+fn copilot_pair<'a>(word: &'a str, a: &'a str) -> Command<'a>
+    ensures value { value_of_command result ≡ copilot_command (word.now ∷ a.now ∷ []) }
+    ensures named { HasName (value_of_command result) }
+{
+    if is_unbuilt_pair(word.as_bytes(), a.as_bytes()) {
+        return Command::Unbuilt;
+    }
+    Command::NoCommand
+}
+
+fn copilot_triple<'a>(word: &'a str, a: &'a str, b: &'a str) -> Command<'a>
+    ensures value { value_of_command result ≡ copilot_command (word.now ∷ a.now ∷ b.now ∷ []) }
+    ensures named { HasName (value_of_command result) }
+{
+    if is_compile(word.as_bytes(), a.as_bytes(), b.as_bytes()) {
+        return Command::Compile { spec: a, name: b };
+    }
+    if is_unbuilt_triple(word.as_bytes(), a.as_bytes(), b.as_bytes()) {
+        return Command::Unbuilt;
+    }
+    Command::NoCommand
 }
 
 fn copilot_command<'a>(words: &'a [String]) -> Command<'a>
-    ensures { value_of result ≡ copilot_command (map string_bytes words.now) }
+    ensures value { value_of_command result ≡ copilot_command (map string_bytes words.now) }
+    ensures named { HasName (value_of_command result) }
+{
+    if words.len() == 2 {
+        let [word, a] = words else {
+            return Command::NoCommand;
+        };
+        return copilot_pair(word.as_str(), a.as_str());
+    }
+    if words.len() == 3 {
+        let [word, a, b] = words else {
+            return Command::NoCommand;
+        };
+        return copilot_triple(word.as_str(), a.as_str(), b.as_str());
+    }
+    Command::NoCommand
+}
+
+// ---- the rows of `ogma`
+
+fn is_standalone(word: &[u8], reqs: &[u8], spec: &[u8]) -> bool
+    ensures { result ≡ is_standalone word.now reqs.now spec.now }
+{
+    if !is_word(word, b"standalone") {
+        return false;
+    }
+    if !is_file(reqs) {
+        return false;
+    }
+    if !is_file(spec) {
+        return false;
+    }
+    !is_word(reqs, spec)
+}
+
+// Tells whether three words are this frame over a file that is none of those that are written.
+fn is_frame(wanted: &[u8], ends: &[&[u8]], word: &[u8], reqs: &[u8], name: &[u8]) -> bool
+    ensures { result ≡ is_frame wanted.now (map (λ end. end.now) ends.now) word.now reqs.now name.now }
+{
+    if !is_word(word, wanted) {
+        return false;
+    }
+    if !is_file(reqs) {
+        return false;
+    }
+    if !is_name(name) {
+        return false;
+    }
+    is_apart(ends, reqs, name)
+}
+
+fn is_cfs(word: &[u8], reqs: &[u8], name: &[u8]) -> bool
+    ensures { result ≡ is_frame (codes "cfs") cfs_ends word.now reqs.now name.now }
+{
+    is_frame(b"cfs", &[b".spec", b"_app.c"], word, reqs, name)
+}
+
+fn is_ros(word: &[u8], reqs: &[u8], name: &[u8]) -> bool
+    ensures { result ≡ is_frame (codes "ros") ros_ends word.now reqs.now name.now }
+{
+    is_frame(b"ros", &[b".spec", b"_node.cpp"], word, reqs, name)
+}
+
+fn is_fprime(word: &[u8], reqs: &[u8], name: &[u8]) -> bool
+    ensures { result ≡ is_frame (codes "fprime") fprime_ends word.now reqs.now name.now }
+{
+    is_frame(
+        b"fprime",
+        &[b".spec", b".fpp", b"_fprime.cpp"],
+        word,
+        reqs,
+        name,
+    )
+}
+
+fn is_application(word: &[u8], reqs: &[u8], name: &[u8]) -> bool
+    ensures { result ≡ is_application word.now reqs.now name.now }
+{
+    if is_cfs(word, reqs, name) {
+        return true;
+    }
+    if is_ros(word, reqs, name) {
+        return true;
+    }
+    is_fprime(word, reqs, name)
+}
+
+fn ogma_triple<'a>(word: &'a str, a: &'a str, b: &'a str) -> Command<'a>
+    ensures value { value_of_command result ≡ ogma_command (word.now ∷ a.now ∷ b.now ∷ []) }
+    ensures named { HasName (value_of_command result) }
+{
+    if is_standalone(word.as_bytes(), a.as_bytes(), b.as_bytes()) {
+        return Command::Unbuilt;
+    }
+    if is_application(word.as_bytes(), a.as_bytes(), b.as_bytes()) {
+        return Command::Unbuilt;
+    }
+    Command::NoCommand
+}
+
+fn ogma_command<'a>(words: &'a [String]) -> Command<'a>
+    ensures value { value_of_command result ≡ ogma_command (map string_bytes words.now) }
+    ensures named { HasName (value_of_command result) }
 {
     if words.len() != 3 {
-        return Command::Unbuilt;
+        return Command::NoCommand;
     }
-    let [word, spec, name] = words else {
-        return Command::Unbuilt;
+    let [word, a, b] = words else {
+        return Command::NoCommand;
     };
-    if is_compile(word.as_bytes(), spec.as_bytes(), name.as_bytes()) {
-        return Command::Compile {
-            spec: spec.as_str(),
-            name: name.as_str(),
-        };
-    }
-    Command::Unbuilt
+    ogma_triple(word.as_str(), a.as_str(), b.as_str())
 }
 
 /// The command that a tool's words are.
 pub fn command_of<'a>(tool: Tool, words: &'a [String]) -> Command<'a>
-    ensures { value_of result ≡ command_of tool (map string_bytes words.now) }
+    ensures value { value_of_command result ≡ command_of tool (map string_bytes words.now) }
+    ensures named { HasName (value_of_command result) }
 {
     match tool {
         Tool::Copilot => copilot_command(words),
-        Tool::Ogma => Command::Unbuilt,
+        Tool::Ogma => ogma_command(words),
     }
 }

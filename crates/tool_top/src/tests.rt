@@ -11,13 +11,16 @@ const DOOR_HEADER: &str =
 const DOOR_SOURCE: &str =
     "#include \"door.h\"\nstatic bool cp_c_ajar;\nvoid step(void)\n{\n  cp_c_ajar = ajar;\n  if (cp_c_ajar) { chime(); }\n}\n";
 
-const NOT_YET: Outcome = Outcome::Refused(Refusal {
-    kind: RefusalKind::NotYet,
-    item: 0,
-    at: 0,
-});
+const EMPTY_HEADER: &str =
+    "#ifndef CP_a_H\n#define CP_a_H\n#include <stdint.h>\n#include <stdbool.h>\nenum { cp_storage = 0, cp_need = 0 };\nvoid step(void);\n#endif\n";
 
-const NOT_YET_LINE: &str = "error: NotYet at 0\n";
+const EMPTY_SOURCE: &str = "#include \"a.h\"\nvoid step(void)\n{\n}\n";
+
+const COPILOT_USAGE: &str =
+    "usage: copilot compile SPEC NAME | interpret SPEC | cexec NAME | demo K T | migrate OLD NEW\n";
+
+const OGMA_USAGE: &str =
+    "usage: ogma standalone REQS SPEC | cfs REQS NAME | ros REQS NAME | fprime REQS NAME\n";
 
 fn words(alloc: Global, texts: &[&str]) -> Result<Vec<String>, AllocError> {
     let mut words = Vec::new(alloc);
@@ -84,95 +87,182 @@ fn door(rt: HostRuntime) -> Result<(), Fail> {
     Ok(())
 }
 
-// A run over one file, `a.spec`.
-struct Case {
-    text: &'static str,
-    words: &'static [&'static str],
-    outcome: Outcome,
-    line: &'static str,
+// A text that `compile a.spec a` refuses, and the line that tells why.
+const REFUSED: [(&str, &str); 13] = [
+    ("(spec t (trigger a b))", "error: Unknown at 19\n"),
+    ("(spec t (extern x Int8))", "error: NotYet at 18\n"),
+    (
+        "(spec t (trigger x 1:Int8) (stream y))",
+        "error: BadForm at 27\n",
+    ),
+    (
+        "(((((((((((((((((((((((((((((((((((((((((((((((((((((((((((((((((",
+        "error: TooDeep at 64\n",
+    ),
+    (
+        "((((((((((((((((((((((((((((((((((((((((((((((((((((((((((((((((",
+        "error: Unbalanced at 64\n",
+    ),
+    ("(spec f (extern x Float))", "error: BadName at 18\n"),
+    (
+        "(spec f (extern x Bool) (def x Bool true))",
+        "error: Redeclared at 29\n",
+    ),
+    (
+        "(spec f (observer o 256:Word8))",
+        "error: BadLiteral at 20\n",
+    ),
+    ("(spec f \x07)", "error: BadByte at 8\n"),
+    ("", "error: BadForm at 0\n"),
+    (
+        "(spec t (extern x Bool) (trigger x x))",
+        "error: Redeclared at 33\n",
+    ),
+    (
+        "(spec t (extern x Bool) (trigger a x x))",
+        "error: NotYet at 37\n",
+    ),
+    (
+        "(spec t (extern x Bool) (trigger a (not x)))",
+        "error: NotYet at 35\n",
+    ),
+];
+
+#[test]
+fn first_faults(rt: HostRuntime) -> Result<(), Fail> {
+    let alloc = rt.alloc();
+    for (text, line) in REFUSED {
+        let mut shelf = MemShelf::new(alloc, Vec::new(alloc));
+        shelf.add("a.spec", text.as_bytes().to_vec(alloc)?)?;
+        let told = run(alloc, Tool::Copilot, COMPILE_A, &mut shelf)?;
+        assert_eq!(rt; told.line.taken(), line.as_bytes(), "{text}");
+        assert_eq!(rt; told.outcome.code(), 1, "{text}");
+        assert!(rt; shelf.get("a.h").is_none(), "{text}");
+        assert!(rt; shelf.get("a.c").is_none(), "{text}");
+    }
+    Ok(())
 }
 
 const COMPILE_A: &[&str] = &["compile", "a.spec", "a"];
 
-const CASES: [Case; 9] = [
-    Case {
-        text: "(spec a)\n",
-        words: COMPILE_A,
-        outcome: Outcome::Done,
-        line: "",
+// 'Empty', and the same behind a comment and with one in it.
+#[test]
+fn empty(rt: HostRuntime) -> Result<(), Fail> {
+    let alloc = rt.alloc();
+    for text in ["(spec a)", "; c\n(spec a ; x (\n)"] {
+        let mut shelf = MemShelf::new(alloc, Vec::new(alloc));
+        shelf.add("a.spec", text.as_bytes().to_vec(alloc)?)?;
+        let told = run(alloc, Tool::Copilot, COMPILE_A, &mut shelf)?;
+        assert_eq!(rt; told.outcome, Outcome::Done, "{text}");
+        let header = shelf.get("a.h").unwrap_or(b"none");
+        let source = shelf.get("a.c").unwrap_or(b"none");
+        assert_eq!(rt; header, EMPTY_HEADER.as_bytes(), "{text}");
+        assert_eq!(rt; source, EMPTY_SOURCE.as_bytes(), "{text}");
+    }
+    Ok(())
+}
+
+// Words over a shelf with the one file `a.spec`, the status and the line.
+struct Row {
+    tool: Tool,
+    words: &'static [&'static str],
+    code: u8,
+    line: &'static str,
+}
+
+const WORDS: [Row; 9] = [
+    Row {
+        tool: Tool::Copilot,
+        words: &["compile", "a.spec"],
+        code: 2,
+        line: COPILOT_USAGE,
     },
-    Case {
-        text: DOOR,
-        words: COMPILE_A,
-        outcome: Outcome::Done,
-        line: "",
-    },
-    Case {
-        text: "(spec a (extern x Bool))",
-        words: COMPILE_A,
-        outcome: NOT_YET,
-        line: NOT_YET_LINE,
-    },
-    Case {
-        text: "(spec a\n  (trigger t x))\n",
-        words: COMPILE_A,
-        outcome: NOT_YET,
-        line: NOT_YET_LINE,
-    },
-    Case {
-        text: "(spec a\n  (extern x Bool)\n  (trigger x x))\n",
-        words: COMPILE_A,
-        outcome: NOT_YET,
-        line: NOT_YET_LINE,
-    },
-    Case {
-        text: DOOR,
+    Row {
+        tool: Tool::Copilot,
         words: &["compile", "nope.spec", "m"],
-        outcome: Outcome::Missing,
+        code: 7,
         line: "missing: nope.spec\n",
     },
-    Case {
-        text: DOOR,
+    Row {
+        tool: Tool::Copilot,
         words: &["compile", "a.h", "a"],
-        outcome: NOT_YET,
-        line: NOT_YET_LINE,
+        code: 2,
+        line: COPILOT_USAGE,
     },
-    Case {
-        text: DOOR,
+    Row {
+        tool: Tool::Copilot,
         words: &["compile", "../a.spec", "a"],
-        outcome: NOT_YET,
-        line: NOT_YET_LINE,
+        code: 2,
+        line: COPILOT_USAGE,
     },
-    Case {
-        text: DOOR,
+    Row {
+        tool: Tool::Copilot,
         words: &["interpret", "a.spec"],
-        outcome: NOT_YET,
-        line: NOT_YET_LINE,
+        code: 1,
+        line: "error: NotYet at 0\n",
+    },
+    Row {
+        tool: Tool::Copilot,
+        words: &["demo", "1000", "1000001"],
+        code: 2,
+        line: COPILOT_USAGE,
+    },
+    Row {
+        tool: Tool::Copilot,
+        words: &["demo", "200", "10000"],
+        code: 1,
+        line: "error: NotYet at 0\n",
+    },
+    Row {
+        tool: Tool::Ogma,
+        words: &["compile", "a.spec", "a"],
+        code: 2,
+        line: OGMA_USAGE,
+    },
+    Row {
+        tool: Tool::Ogma,
+        words: &["cfs", "one.json", "one"],
+        code: 1,
+        line: "error: NotYet at 0\n",
     },
 ];
 
 #[test]
-fn other_runs(rt: HostRuntime) -> Result<(), Fail> {
+fn words_and_files(rt: HostRuntime) -> Result<(), Fail> {
     let alloc = rt.alloc();
-    for case in &CASES {
-        let text = case.text;
+    for case in &WORDS {
         let mut shelf = MemShelf::new(alloc, Vec::new(alloc));
-        shelf.add("a.spec", text.as_bytes().to_vec(alloc)?)?;
-        let told = run(alloc, Tool::Copilot, case.words, &mut shelf)?;
-        assert_eq!(rt; told.outcome, case.outcome, "{text}");
-        assert_eq!(rt; told.line.taken(), case.line.as_bytes(), "{text}");
-        // The unit has the command's name, and not the specification's.
-        let header = shelf.get("a.h").unwrap_or(b"");
-        let is_done = case.outcome == Outcome::Done;
-        assert_eq!(rt;
-            header.starts_with(b"#ifndef CP_a_H\n#define CP_a_H\n"),
-            is_done,
-            "{text}"
-        );
+        shelf.add("a.spec", b"(spec a)".to_vec(alloc)?)?;
+        let told = run(alloc, case.tool, case.words, &mut shelf)?;
+        assert_eq!(rt; told.outcome.code(), case.code, "{}", case.line);
+        assert_eq!(rt; told.line.taken(), case.line.as_bytes());
+        assert!(rt; shelf.get("a.h").is_none(), "{}", case.line);
     }
-    let mut shelf = MemShelf::new(alloc, Vec::new(alloc));
-    let told = run(alloc, Tool::Ogma, &["compile", "a.spec", "a"], &mut shelf)?;
-    assert_eq!(rt; told.outcome, NOT_YET);
+    Ok(())
+}
+
+// The text of a specification of so many externs.
+fn externs(alloc: Global, count: u32) -> Result<Vec<u8>, AllocError> {
+    let mut text = b"(spec a".to_vec(alloc)?;
+    for k in 0..count {
+        text.extend_from_slice(b" (extern x")?;
+        text.extend_from_slice(itoa::Buffer::new().format(k).as_bytes())?;
+        text.extend_from_slice(b" Bool)")?;
+    }
+    text.extend_from_slice(b")")?;
+    Ok(text)
+}
+
+#[test]
+fn too_many_declarations(rt: HostRuntime) -> Result<(), Fail> {
+    let alloc = rt.alloc();
+    for (count, line) in [(4096, ""), (4097, "error: TooManyDecls\n")] {
+        let mut shelf = MemShelf::new(alloc, Vec::new(alloc));
+        shelf.add("a.spec", externs(alloc, count)?)?;
+        let told = run(alloc, Tool::Copilot, COMPILE_A, &mut shelf)?;
+        assert_eq!(rt; told.line.taken(), line.as_bytes());
+        assert_eq!(rt; shelf.get("a.c").is_some(), line.is_empty());
+    }
     Ok(())
 }
 
@@ -181,12 +271,7 @@ fn a_text_that_is_too_long(rt: HostRuntime) -> Result<(), Fail> {
     let alloc = rt.alloc();
     let mut shelf = MemShelf::new(alloc, Vec::new(alloc));
     shelf.add("a.spec", Vec::from_elem(alloc, b' ', 1_048_577)?)?;
-    let told = run(
-        alloc,
-        Tool::Copilot,
-        &["compile", "a.spec", "a"],
-        &mut shelf,
-    )?;
+    let told = run(alloc, Tool::Copilot, COMPILE_A, &mut shelf)?;
     assert_eq!(rt; told.outcome.code(), 1);
     assert_eq!(rt; told.line.taken(), b"error: TextTooLong\n".as_slice());
     Ok(())

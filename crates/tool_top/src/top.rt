@@ -1,38 +1,30 @@
 // The top call.
-ghost use Rattle.std.specs.Prelude.{◌≡◌, ◌≤◌, ◌⊎◌, ◌++◌, Bool, IfErr, IsErrOf, map, IfOk, OnOk, OnErr, IfSome, IsTrue, is_ok, string_bytes};
+ghost use Rattle.std.specs.Prelude.{◌≡◌, ◌≤◌, ◌⊎◌, ◌++◌, ℕ, List, Bool, IfErr, IsErrOf, map, IfOk, OnOk, OnErr, IfSome, IsTrue, is_ok, string_bytes, Ok};
 ghost use Rattle.sm_io.specs.Causes.{Rose, HasCause};
 ghost use Rattle.sm_io.specs.Files.{SameBut, with_file};
 ghost use Rattle.sm_io.specs.Written.{WritesText};
-ghost use Rattle.tool_top.specs.Texts.{header_text, source_text};
+ghost use Rattle.sm_io.specs.Words.{is_name};
+ghost use Rattle.c99_ast.specs.Spelling.{Spells};
+ghost use Rattle.c99_ast.specs.WellFormed.{IsWellFormed};
 ghost use Rattle.tool_top.specs.Command.{command_of, file_word};
-ghost use Rattle.tool_top.specs.Answer.{Compiles, Runs, IsSource, MayStop, Completes, HasOneOutcome};
+ghost use Rattle.tool_top.specs.Answer.{Compiles, Runs, MayStop, IsProgramOf, IsProgramFor, Completes, HasOneOutcome, text_of};
+ghost use Rattle.tool_top.specs.Analysis.{Means, Stops, HasFirstFault};
 ghost use Rattle.tool_top.specs.Lines.{line_of};
 
+use crate::analysis::{analyse, first_fault_is_one, nowhere};
 use crate::command::{Command, command_of};
-use crate::outcome::{Outcome, Refusal, RefusalKind, Tool};
-use crate::print::{print_header, print_source};
-use crate::read::{ThinFault, read_thin};
+use crate::outcome::{Outcome, RefusalKind, Tool};
 use crate::tell::tell;
-use crate::thin::Thin;
-use sm_io::{Failed, FetchFault, Shelf, Sink, Source, VecSink};
+use c99_ast::Unit;
+use c99_print::{print_header, print_source, printed_texts_are_spelled};
+use c99_read::texts_spell_one_unit;
+use ring_codegen::generate;
+use sm_io::{Failed, FetchFault, Name, Shelf, Sink, Source, VecSink};
 use std::alloc::{AllocError, Global};
+use stream_core::Spec;
 
 // The most bytes of a specification.
 const TEXT_LIMIT: usize = 1_048_576;
-
-// A refusal that tells no place.
-const TOO_LONG: Refusal = Refusal {
-    kind: RefusalKind::TextTooLong,
-    item: 0,
-    at: 0,
-};
-
-// What isn't built, at the text's start.
-const NOT_YET: Refusal = Refusal {
-    kind: RefusalKind::NotYet,
-    item: 0,
-    at: 0,
-};
 
 // Both texts of a unit, in memory.
 #[derive(Drop)]
@@ -41,15 +33,17 @@ struct Texts {
     source: VecSink,
 }
 
-fn make_texts(alloc: Global, name: &str, thin: &Thin) -> Result<Texts, AllocError>
-    ensures { IfOk result (λ t. (t.header.taken ≡ header_text name.now thin.now) × (t.source.taken ≡ source_text name.now thin.now)) }
+fn make_texts(alloc: Global, unit: &Unit) -> Result<Texts, AllocError>
+    requires { IsWellFormed unit.now }
+    ensures { IfOk result (λ t. Spells unit.now t.header.taken t.source.taken) }
 {
+    printed_texts_are_spelled();
     let mut header = VecSink::new(alloc);
-    if print_header(name.as_bytes(), thin, &mut header).is_err() {
+    if print_header(unit, &mut header).is_err() {
         return Err(AllocError);
     }
     let mut source = VecSink::new(alloc);
-    if print_source(name.as_bytes(), thin, &mut source).is_err() {
+    if print_source(unit, &mut source).is_err() {
         return Err(AllocError);
     }
     Ok(Texts { header, source })
@@ -64,26 +58,21 @@ fn file_name(alloc: Global, name: &str, end: &str) -> Result<String, AllocError>
     Ok(file)
 }
 
-// Fetches and reads the text of a specification, or tells how the run stops.
-fn fetch_thin<F: Shelf>(alloc: Global, spec: &str, shelf: &mut F) -> Result<Thin, Outcome>
+// Fetches the text of a specification, or tells how the run stops.
+fn fetch_text<F: Shelf>(alloc: Global, spec: &str, shelf: &mut F) -> Result<Vec<u8>, Outcome>
     ensures same { F.files shelf.new ≡ F.files shelf.old }
     ensures later { F.faults shelf.old ≤ F.faults shelf.new }
-    ensures ok { IfOk result (λ t. IfSome (F.files shelf.old) (λ m. IsSource spec.now m t)) }
+    ensures ok { IfOk result (λ text. IfSome (F.files shelf.old) (λ m. text_of spec.now m ≡ Ok text.items)) }
     ensures err { IfErr result (λ outcome. IfSome (F.files shelf.old) (λ m. MayStop spec.now m outcome)) }
     ensures read { IsErrOf result Outcome.ReadFault → Rose (F.faults shelf.old) (F.faults shelf.new) }
     ensures write { IsErrOf result Outcome.WriteFault → ⊥ }
 {
-    let text = match shelf.fetch(alloc, spec, TEXT_LIMIT) {
-        Ok(text) => text,
-        Err(FetchFault::Missing) => return Err(Outcome::Missing),
-        Err(FetchFault::TooLong) => return Err(Outcome::Refused(TOO_LONG)),
-        Err(FetchFault::Failed) => return Err(Outcome::ReadFault),
-        Err(FetchFault::Memory) => return Err(Outcome::NoMemory),
-    };
-    match read_thin(alloc, &text) {
-        Ok(thin) => Ok(thin),
-        Err(ThinFault::NotThin) => Err(Outcome::Refused(NOT_YET)),
-        Err(ThinFault::Memory) => Err(Outcome::NoMemory),
+    match shelf.fetch(alloc, spec, TEXT_LIMIT) {
+        Ok(text) => Ok(text),
+        Err(FetchFault::Missing) => Err(Outcome::Missing),
+        Err(FetchFault::TooLong) => Err(nowhere(RefusalKind::TextTooLong)),
+        Err(FetchFault::Failed) => Err(Outcome::ReadFault),
+        Err(FetchFault::Memory) => Err(Outcome::NoMemory),
     }
 }
 
@@ -103,18 +92,56 @@ fn put_both<F: Shelf>(
     shelf.put(source, texts.source.taken())
 }
 
+// The name of a unit.
+fn unit_name(alloc: Global, name: &str) -> Result<Name, AllocError>
+    requires { IsTrue (is_name name.now) }
+    ensures { IfOk result (λ unit. unit ≡ name.now) }
+{
+    Ok(Name::new(name.as_bytes().to_vec(alloc)?))
+}
+
+// Both texts of the program of a specification.
+fn program_texts(alloc: Global, spec: &Spec, name: &str) -> Result<Texts, AllocError>
+    requires named { IsTrue (is_name name.now) }
+    requires means { (text : List ℕ) × Means text spec.now }
+    ensures { IfOk result (λ t. IsProgramOf spec.now name.now t.header.taken t.source.taken) }
+{
+    texts_spell_one_unit();
+    let name = unit_name(alloc, name)?;
+    let unit = generate(alloc, spec, &name)?;
+    make_texts(alloc, &unit)
+}
+
+// Both texts of the program of a specification's text, or how the run stops.
+fn compiled(alloc: Global, text: &[u8], name: &str) -> Result<Texts, Outcome>
+    requires named { IsTrue (is_name name.now) }
+    ensures ok { IfOk result (λ t. IsProgramFor text.now name.now t.header.taken t.source.taken) }
+    ensures err { IfErr result (λ stop. Stops (HasFirstFault text.now) stop) }
+{
+    let spec = match analyse(alloc, text) {
+        Ok(spec) => spec,
+        Err(stop) => return Err(stop),
+    };
+    match program_texts(alloc, &spec, name) {
+        Ok(texts) => Ok(texts),
+        Err(AllocError) => Err(Outcome::NoMemory),
+    }
+}
+
 fn compile<F: Shelf>(alloc: Global, spec: &str, name: &str, shelf: &mut F) -> Outcome
+    requires named { IsTrue (is_name name.now) }
     ensures runs { IfSome (F.files shelf.old) (λ m. Compiles spec.now name.now m (F.files shelf.new) result) }
     ensures read { result ≡ Outcome.ReadFault → Rose (F.faults shelf.old) (F.faults shelf.new) }
     ensures write { result ≡ Outcome.WriteFault → Rose (F.faults shelf.old) (F.faults shelf.new) }
     ensures later { F.faults shelf.old ≤ F.faults shelf.new }
 {
-    let thin = match fetch_thin(alloc, spec, shelf) {
-        Ok(thin) => thin,
+    let text = match fetch_text(alloc, spec, shelf) {
+        Ok(text) => text,
         Err(outcome) => return outcome,
     };
-    let Ok(texts) = make_texts(alloc, name, &thin) else {
-        return Outcome::NoMemory;
+    let texts = match compiled(alloc, &text, name) {
+        Ok(texts) => texts,
+        Err(stop) => return stop,
     };
     let Ok(header) = file_name(alloc, name, ".h") else {
         return Outcome::NoMemory;
@@ -145,7 +172,7 @@ pub fn run_tool<S: Source, K: Sink, E: Sink, F: Shelf>(
     // A fault is told only where the shelf's count rose.
     ensures read { result ≡ Outcome.ReadFault → Rose (F.faults shelf.old) (F.faults shelf.new) }
     ensures write { result ≡ Outcome.WriteFault → Rose (F.faults shelf.old) (F.faults shelf.new) }
-    // A thin text is compiled, unless the count rose or memory ran out.
+    // A text without a fault is compiled, unless the count rose or memory ran out.
     ensures completes { ¬ Rose (F.faults shelf.old) (F.faults shelf.new) → Completes (command_of tool (map string_bytes words.now)) (F.files shelf.old) result }
     // No command that is built reads the input or writes to the output.
     ensures input { input.new ≡ input.old }
@@ -155,12 +182,18 @@ pub fn run_tool<S: Source, K: Sink, E: Sink, F: Shelf>(
 {
     match command_of(tool, words) {
         Command::Compile { spec, name } => {
+            first_fault_is_one();
             let outcome = compile(alloc, spec, name, shelf);
             let _ = tell(tool, spec.as_bytes(), &outcome, err);
             outcome
         }
         Command::Unbuilt => {
-            let outcome = Outcome::Refused(NOT_YET);
+            let outcome = nowhere(RefusalKind::NotYet);
+            let _ = tell(tool, b"", &outcome, err);
+            outcome
+        }
+        Command::NoCommand => {
+            let outcome = Outcome::Usage;
             let _ = tell(tool, b"", &outcome, err);
             outcome
         }
@@ -170,4 +203,6 @@ pub fn run_tool<S: Source, K: Sink, E: Sink, F: Shelf>(
 /// Two runs over the same words and files answer the same, unless one met a fault or found no memory.
 pub fn outcome_is_one()
     ensures { HasOneOutcome }
-{}
+{
+    first_fault_is_one();
+}

@@ -4,3 +4,4 @@ pub mod Externs
 pub mod Gathered
 pub mod Apart
 pub mod WholeSpec
+pub mod Extents

@@ -1,6 +1,6 @@
 -- The specification that was gathered is the one that the surface stands for, and is well typed.
 use Rattle.std.proofs.Common.{◌≡◌, ℕ, zero, suc, ◌+◌, ◌<◌, ◌≤◌, Bool, true, false, List, [], ◌∷◌, map, length, refl, sym, ap, ◌∙◌, subst, arith}
-use Rattle.std.specs.Prelude.{Option, Some, None, Err, ◌||◌, ◌&&◌, not, if◌then◌else◌, slice_get, IsTrue, All, ◌==◌, nat_le}
+use Rattle.std.specs.Prelude.{Option, Some, None, Err, ◌||◌, ◌&&◌, not, if◌then◌else◌, slice_get, IsTrue, All, ◌==◌}
 use Rattle.sm_io.specs.Words.{is_name}
 use Rattle.std.specs.List.{list_any, position_or_len, AllByRecursion}
 use Rattle.std.proofs.lemmas.List.{append-nil}

@@ -10,3 +10,6 @@ mod unbuilt;
 
 pub use fault::TypeFault;
 pub use typed::type_all;
+
+#[cfg(test)]
+mod tests;

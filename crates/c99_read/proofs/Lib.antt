@@ -1,0 +1,10 @@
+pub mod OneTree
+pub mod FrontFinds
+pub mod TypeFinds
+pub mod ExprFinds
+pub mod WordsFind
+pub mod LinesFind
+pub mod HeaderFinds
+pub mod RingsFind
+pub mod StatementsFind
+pub mod OneUnit

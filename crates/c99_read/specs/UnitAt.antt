@@ -1,0 +1,77 @@
+-- Reading a header and a source.
+use Rattle.std.specs.Prelude.{ℕ, if◌then◌else◌, List, [], ◌∷◌, ◌++◌, codes, Option, Some, None}
+use Rattle.std.specs.List.{flat_map}
+use Rattle.sm_io.specs.Words.{is_name}
+use Rattle.c99_ast.specs.declared.types.CVar.{CVar}
+use Rattle.c99_ast.specs.declared.types.CDef.{CDef}
+use Rattle.c99_ast.specs.declared.types.CProto.{CProto}
+use Rattle.c99_ast.specs.declared.unit.CRing.{CRing}
+use Rattle.c99_ast.specs.Words.{is_same}
+use Rattle.c99_ast.specs.Lookup.{arrays_in}
+use Rattle.c99_ast.specs.Tree.{Stmt}
+use Rattle.c99_ast.specs.Spelling.{pick_line, copy_line}
+use Rattle.c99_read.specs.Front.{◌>>=◌, behind, word, after_word, number_at, all_at, begins}
+use Rattle.c99_read.specs.LineAt.{def_at, extern_at, handler_at, is_handler, ring_lines_at, statement_at}
+
+-- what a header says
+pub record Header : Type 0 where
+  pub name : List ℕ
+  pub storage : ℕ
+  pub need : ℕ
+  pub types : List CDef
+  pub externs : List CVar
+  pub handlers : List CProto
+
+-- what a source says beside its header
+pub record Source : Type 0 where
+  pub rings : List CRing
+  pub step : List Stmt
+
+-- what stands before the last `_H`
+abbrev pub one_more : ℕ → Option (List ℕ) → Option (List ℕ)
+one_more b None = None
+one_more b (Some x) = Some (b ∷ x)
+
+unfoldable pub before_end : List ℕ → Option (List ℕ)
+before_end [] = None
+before_end (b ∷ bs) = if is_same (b ∷ bs) (codes "_H") then Some [] else one_more b (before_end bs)
+
+unfoldable pub guard_name_at : List ℕ → Option (List ℕ × List ℕ)
+guard_name_at s = before_end (word s) >>= λ x. if is_name x then Some (x, after_word s) else None
+
+unfoldable pub top_at : List ℕ → Option (List ℕ × List ℕ)
+top_at s =
+    behind (codes "#ifndef CP_") s >>= λ r. guard_name_at r >>= λ x.
+    behind (codes "\n#define CP_" ++ x.0 ++ codes "_H\n#include <stdint.h>\n#include <stdbool.h>\n") x.1 >>= λ t. Some (x.0, t)
+
+unfoldable pub totals_at : List ℕ → Option ((ℕ × ℕ) × List ℕ)
+totals_at s =
+    behind (codes "enum { cp_storage = ") s >>= λ r. number_at r >>= λ a. behind (codes ", cp_need = ") a.1 >>= λ t.
+    number_at t >>= λ b. behind (codes " };\n") b.1 >>= λ x. Some ((a.0, b.0), x)
+
+-- nothing is left
+abbrev pub whole : {A : Type 0} → A → List ℕ → Option A
+whole a [] = Some a
+whole a (b ∷ bs) = None
+
+abbrev pub a_header : List ℕ → ℕ × ℕ → List CDef → List CVar → List CProto → Header
+a_header x ns ds vs hs =
+    record { name = x; storage = ns.0; need = ns.1; types = ds; externs = vs; handlers = hs }
+
+unfoldable pub header_of : List ℕ → Option Header
+header_of s =
+    top_at s >>= λ x. totals_at x.1 >>= λ ns. all_at (begins (codes "struct ")) def_at ns.1 >>= λ ds.
+    all_at (begins (codes "extern ")) extern_at ds.1 >>= λ vs. all_at is_handler handler_at vs.1 >>= λ hs.
+    behind (codes "void step(void);\n#endif\n") hs.1 >>= whole (a_header x.0 ns.0 ds.0 vs.0 hs.0)
+
+-- the lines that follow from the header
+unfoldable pub known_at : Header → List ℕ → Option (List ℕ)
+known_at h s =
+    behind (codes "#include \"" ++ h.name ++ codes ".h\"\n") s >>= behind (flat_map pick_line (arrays_in h.types))
+    >>= behind (flat_map copy_line h.externs)
+
+unfoldable pub source_of : Header → List ℕ → Option Source
+source_of h s =
+    known_at h s >>= λ x. all_at (begins (codes "static ")) (ring_lines_at h.types) x >>= λ rs.
+    behind (codes "void step(void)\n{\n") rs.1 >>= λ t. all_at (begins (codes " ")) (statement_at rs.0) t >>= λ all.
+    behind (codes "}\n") all.1 >>= whole (record { rings = rs.0; step = all.0 })
