@@ -49,7 +49,7 @@ node_there s i t w has = ⊎_elim (λ b. b) past (cases_lt i (length s.nodes))
         let is : tree s.nodes s.libs i ≡ missing = tree_is s.nodes s.libs w.ordered i ∙ ap (build_at s.libs (tree s.nodes s.libs)) (slice_get_past s.nodes i le) in
         absurd (subst (λ e. HasType (trees s) e t) is has)
 
-exprs_there : (s : SpecValue) → WellTyped s → (d : ℕ) (x : DefItem) → slice_get s.defs d ≡ Some x → x.expr < length s.nodes
+pub exprs_there : (s : SpecValue) → WellTyped s → (d : ℕ) (x : DefItem) → slice_get s.defs d ≡ Some x → x.expr < length s.nodes
 exprs_there s w d x e =
     let trees_at : slice_get (trees s).defs d ≡ Some (tree_def (tree s.nodes s.libs) x) = slice_get-map (tree_def (tree s.nodes s.libs)) s.defs d ∙ ap (option_map (tree_def (tree s.nodes s.libs))) e in
     let y = tree_def (tree s.nodes s.libs) x in

@@ -17,43 +17,43 @@ use Rattle.stream_core.specs.Weights.{total, loaded, heavy, buffers_weight, root
 use Rattle.stream_core.proofs.FormWeights.{over, stream_over, buffers_are}
 use Rattle.stream_core.proofs.Loaded.{lowered_is, lowered_def, def_to_is}
 
-sum_is : (xs : List ℕ) → sum xs ≡ total xs
+pub sum_is : (xs : List ℕ) → sum xs ≡ total xs
 sum_is [] = refl
 sum_is (x ∷ xs) = sum_by-cons (λ w. w) x xs ∙ ap (λ w. x + w) (sum_is xs)
 
-total-append : (xs ys : List ℕ) → total (xs ++ ys) ≡ total xs + total ys
+pub total-append : (xs ys : List ℕ) → total (xs ++ ys) ≡ total xs + total ys
 total-append [] ys = omega arith
 total-append (x ∷ xs) ys = let h = total-append xs ys in omega (arith, h)
 
 module _ (s : SpecValue) where
   -- where the buffers of a form begin
-  abbrev at : ℕ → ℕ
+  abbrev pub at : ℕ → ℕ
   at = buffer_of (length (trees s).streams) (trees s).libs
 
-  abbrev low : ℕ → Term
+  abbrev pub low : ℕ → Term
   low i = lowered at (tree s.nodes s.libs i)
 
-  abbrev G : ℕ → Term
+  abbrev pub G : ℕ → Term
   G = def_to (map (lowered_def at) (defs_of s)) (length (map (lowered_def at) (defs_of s)))
 
-  root_is : (i : ℕ) → over G (low i) ≡ heavy s i
+  pub root_is : (i : ℕ) → over G (low i) ≡ heavy s i
   unfolding closed
   root_is i =
       let l : length (map (lowered_def at) (defs_of s)) ≡ length (defs_of s) = length-map (defs_of s) (lowered_def at) in
       lowered_is G (def_to (defs_of s) (length (map (lowered_def at) (defs_of s)))) (λ d. def_to_is at (defs_of s) (length (map (lowered_def at) (defs_of s))) d) at (tree s.nodes s.libs i)
       ∙ ap (λ n. loaded (with_defs (def_to (defs_of s) n) (tree s.nodes s.libs i))) l
 
-  abbrev root_out : Root → TreeRoot
+  abbrev pub root_out : Root → TreeRoot
   root_out r = root_with (with_defs G) (root_with (lowered at) (tree_root (tree s.nodes s.libs) r))
 
   roots_are : (rs : List Root) → total (map (λ (r : TreeRoot). plain_weight r.expr) (map (root_with (with_defs G)) (map (root_with (lowered at)) (map (tree_root (tree s.nodes s.libs)) rs)))) ≡ roots_weight s rs
   roots_are [] = refl
   roots_are (r ∷ rs) = let h = root_is r.expr in let t = roots_are rs in omega (arith, h, t)
 
-  abbrev trigger_tree : TriggerItem → TreeTrigger
+  abbrev pub trigger_tree : TriggerItem → TreeTrigger
   trigger_tree x = record { name = x.name; guard = tree_root (tree s.nodes s.libs) x.guard; args = map (tree_root (tree s.nodes s.libs)) x.args }
 
-  abbrev trigger_with : (Term → Term) → TreeTrigger → TreeTrigger
+  abbrev pub trigger_with : (Term → Term) → TreeTrigger → TreeTrigger
   trigger_with f x = record x { guard = root_with f x.guard; args = map (root_with f) x.args }
 
   triggers_are : (xs : List TriggerItem) → total (trigger_weights (map (trigger_with (with_defs G)) (map (trigger_with (lowered at)) (map trigger_tree xs)))) ≡ triggers_weight s xs
@@ -65,26 +65,26 @@ module _ (s : SpecValue) where
       let a = total-append (map (λ (r : TreeRoot). plain_weight r.expr) (map (root_with (with_defs G)) (map (root_with (lowered at)) (map (tree_root (tree s.nodes s.libs)) x.args)))) (trigger_weights (map (trigger_with (with_defs G)) (map (trigger_with (lowered at)) (map trigger_tree xs)))) in
       omega (arith, h, r, t, a)
 
-  abbrev observer_with : (Term → Term) → TreeObserver → TreeObserver
+  abbrev pub observer_with : (Term → Term) → TreeObserver → TreeObserver
   observer_with f x = record x { root = root_with f x.root }
 
-  abbrev observer_tree : ObserverItem → TreeObserver
+  abbrev pub observer_tree : ObserverItem → TreeObserver
   observer_tree x = record { name = x.name; root = tree_root (tree s.nodes s.libs) x.root }
 
   observers_are : (xs : List ObserverItem) → total (map (λ (x : TreeObserver). plain_weight x.root.expr) (map (observer_with (with_defs G)) (map (observer_with (lowered at)) (map observer_tree xs)))) ≡ observers_weight s xs
   observers_are [] = refl
   observers_are (x ∷ xs) = let h = root_is x.root.expr in let t = observers_are xs in omega (arith, h, t)
 
-  abbrev stream_with : (Term → Term) → TreeStream → TreeStream
+  abbrev pub stream_with : (Term → Term) → TreeStream → TreeStream
   stream_with f x = record x { expr = f x.expr }
 
-  abbrev stream_tree : StreamItem → TreeStream
+  abbrev pub stream_tree : StreamItem → TreeStream
   stream_tree x = record { name = x.name; ty = x.ty; init = x.init; expr = tree s.nodes s.libs x.expr; at = x.at }
 
-  abbrev lib_tree : LibItem → TreeLib
+  abbrev pub lib_tree : LibItem → TreeLib
   lib_tree x = record { form = x.form; args = map (tree s.nodes s.libs) x.args; at = x.at }
 
-  args_are : (is : List ℕ) → map (over G) (map (lowered at) (map (tree s.nodes s.libs) is)) ≡ map (heavy s) is
+  pub args_are : (is : List ℕ) → map (over G) (map (lowered at) (map (tree s.nodes s.libs) is)) ≡ map (heavy s) is
   args_are [] = refl
   args_are (i ∷ is) = let h = root_is i in let t = args_are is in cc
 

@@ -1,5 +1,5 @@
 -- What each form weighs, by what its operands weigh.
-use Rattle.std.specs.Prelude.{ℕ, zero, suc, ◌+◌, ◌-◌, ◌*◌, ◌<◌, ◌≤◌, ◌≡◌, List, [], ◌∷◌, length, map, slice_get, Option, Some, None, All, if◌then◌else◌}
+use Rattle.std.specs.Prelude.{ℕ, zero, suc, ◌+◌, ◌-◌, ◌*◌, ◌<◌, ◌≤◌, ◌≡◌, List, [], ◌∷◌, length, map, slice_get, max, Option, Some, None, All, if◌then◌else◌}
 use Rattle.std.specs.List.{AllByRecursion}
 use Rattle.stream_types.specs.Types.{signed}
 use Rattle.stream_core.specs.declared.node.Node.{Node}
@@ -73,6 +73,11 @@ buffers_weight (form.SinceIn low high) _ = 0
 buffers_weight (form.Clock period phase) ps = 8
 buffers_weight _ (p ∷ ps) = p
 buffers_weight _ [] = 0
+
+-- the heaviest of them
+abbrev pub heaviest_buffer : LibForm → List ℕ → ℕ
+heaviest_buffer (form.SinceIn low high) (p ∷ q ∷ ps) = max p q
+heaviest_buffer f ps = buffers_weight f ps
 
 abbrev mutual
   -- an expression without defs that are not written out

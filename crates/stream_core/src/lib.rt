@@ -6,6 +6,7 @@
 
 mod form_weights;
 mod laws;
+mod loads;
 mod node;
 mod spec;
 mod weighing;

@@ -19,7 +19,7 @@ use crate::spec::{LibItem, ObserverItem, Root, Spec, StreamItem, TriggerItem};
 // Each call counts up to `most`. What it visits adds 1 at least to the count, but a node that weighs what its operand
 // weighs: a mention of a def, a window of one sample, `once-in 0 0` and `historically-in 0 0`.
 #[cycle(weighing)]
-fn weigh(spec: &Spec, id: NodeId, most: u64) -> u64
+pub(crate) fn weigh(spec: &Spec, id: NodeId, most: u64) -> u64
     requires founded { WellFounded spec.now }
     requires typed { WellTyped spec.now }
     requires there { id < length spec.now.nodes }
@@ -95,7 +95,7 @@ fn weigh_all(spec: &Spec, ids: &[NodeId], most: u64) -> u64
 
 // The node at a place of a list, or nothing past its end.
 #[cycle(weighing)]
-fn weigh_at(spec: &Spec, ids: &[NodeId], at: usize, most: u64) -> u64
+pub(crate) fn weigh_at(spec: &Spec, ids: &[NodeId], at: usize, most: u64) -> u64
     requires founded { WellFounded spec.now }
     requires typed { WellTyped spec.now }
     requires there { AllByRecursion (λ j. j < length spec.now.nodes) ids.now }

@@ -1,5 +1,5 @@
 pub mod Words
-pub mod ThinSound
+pub mod Unsound
 pub mod Building
 pub mod Programs
 pub mod Stopping

@@ -23,6 +23,8 @@ use Rattle.typing.specs.Typing.{type_fault}
 use Rattle.typing.specs.Reading.{spec_of}
 use Rattle.typing.specs.declared.fault.TypeFault.{TypeFault}
 use Rattle.typing.specs.declared.fault.TypeFault.TheVariants as type_
+use Rattle.recursion_check.specs.declared.fault.SoundFault.{SoundFault}
+use Rattle.recursion_check.specs.declared.fault.SoundFault.TheVariants as unsound
 use Rattle.tool_top.specs.declared.outcome.Outcome.{Outcome}
 use Rattle.tool_top.specs.declared.outcome.Outcome.TheVariants.{Refused, NoMemory}
 use Rattle.tool_top.specs.declared.outcome.Refusal.{Refusal}
@@ -133,6 +135,14 @@ stop_of_shape e = Refused (of_shape e)
 abbrev pub stop_of_types : TypeFault → Outcome
 stop_of_types type_.Memory = NoMemory
 stop_of_types e = Refused (of_types e)
+
+abbrev pub stop_of_soundness : SoundFault → Outcome
+stop_of_soundness (unsound.Cycle at) = Refused (at_place kind.Cycle at)
+stop_of_soundness unsound.TooManyDecls = Refused (nowhere kind.TooManyDecls)
+stop_of_soundness unsound.TooManyWords = Refused (nowhere kind.TooManyWords)
+stop_of_soundness (unsound.RootTooHeavy at) = Refused (at_place kind.RootTooHeavy at)
+stop_of_soundness unsound.SpecTooHeavy = Refused (nowhere kind.SpecTooHeavy)
+stop_of_soundness unsound.Memory = NoMemory
 
 -- Each stage gives its value, or stops with a fault of its own or of one before it.
 abbrev pub Stops : (Refusal → Type 0) → Outcome → Type 0

@@ -2,24 +2,18 @@
 ghost use Rattle.std.specs.Prelude.{◌≡◌, ℕ, List, MatchOption, Some, None};
 ghost use Rattle.stream_core.specs.Value.{SpecValue};
 ghost use Rattle.tool_top.specs.declared.outcome.Refusal.{Refusal as RefusalValue};
-ghost use Rattle.stream_core.specs.Term.{trees};
-ghost use Rattle.stream_core.specs.Meaning.{IsFirstFault};
-ghost use Rattle.stream_core.specs.Soundness.{SoundnessFault};
 ghost use Rattle.spec_text.specs.declared.surface.Surface.{Surface};
-ghost use Rattle.typing.specs.Reading.{spec_of};
 ghost use Rattle.tool_top.specs.declared.outcome.Outcome.TheVariants.{Refused};
-ghost use Rattle.tool_top.specs.Analysis.{at_place, nowhere, stop_of_scan, stop_of_shape, stop_of_types, of_soundness, ScansTo, ShapesTo, TypesTo, Analyses, Means, HasFirstFault};
+ghost use Rattle.tool_top.specs.Analysis.{at_place, nowhere, stop_of_scan, stop_of_shape, stop_of_types, stop_of_soundness, ScansTo, ShapesTo, TypesTo, Analyses, Means, HasFirstFault};
 
 use crate::outcome::{Outcome, Refusal, RefusalKind};
+use recursion_check::{Sound, SoundFault, sound};
 use spec_forest::text_has_one_forest;
 use spec_print::forest_has_one_surface;
 use spec_text::{Forest, ScanFault, ShapeFault, Surface, declarations, trees};
 use std::alloc::Global;
 use stream_core::Spec;
 use typing::{TypeFault, type_all};
-
-// The most declarations of a specification.
-const MOST_DECLS: usize = 4096;
 
 /// A refusal that tells no place.
 pub fn nowhere(kind: RefusalKind) -> Outcome
@@ -78,6 +72,19 @@ fn stop_of_types(fault: TypeFault) -> Outcome
     }
 }
 
+fn stop_of_soundness(fault: SoundFault) -> Outcome
+    ensures { result ≡ stop_of_soundness fault }
+{
+    match fault {
+        SoundFault::Cycle(at) => at_place(RefusalKind::Cycle, at),
+        SoundFault::TooManyDecls => nowhere(RefusalKind::TooManyDecls),
+        SoundFault::TooManyWords => nowhere(RefusalKind::TooManyWords),
+        SoundFault::RootTooHeavy(at) => at_place(RefusalKind::RootTooHeavy, at),
+        SoundFault::SpecTooHeavy => nowhere(RefusalKind::SpecTooHeavy),
+        SoundFault::Memory => Outcome::NoMemory,
+    }
+}
+
 fn scanned(alloc: Global, text: &[u8]) -> Result<Forest, Outcome>
     ensures { ScansTo text.now result }
 {
@@ -113,29 +120,17 @@ fn typed(alloc: Global, text: &[u8]) -> Result<Spec, Outcome>
     }
 }
 
-// How a specification of what is built is unsound: it has too many declarations, or nothing is wrong.
-fn unsound(spec: &Spec) -> Option<Outcome>
-    requires built { (s : Surface) × (trees spec.now ≡ spec_of s) }
-    ensures { MatchOption result (IsFirstFault spec.now None) (λ stop. (e : SoundnessFault) × IsFirstFault spec.now (Some e) × (stop ≡ Refused (of_soundness e))) }
-{
-    let declared = spec.externs().len() as u64 + spec.triggers().len() as u64;
-    if declared > MOST_DECLS as u64 {
-        return Some(nowhere(RefusalKind::TooManyDecls));
-    }
-    None
-}
-
-/// The specification that a text stands for, or the text's first fault.
-pub fn analyse(alloc: Global, text: &[u8]) -> Result<Spec, Outcome>
+/// The sound specification that a text stands for, or the text's first fault.
+pub fn analyse(alloc: Global, text: &[u8]) -> Result<Sound, Outcome>
     ensures { Analyses text.now result }
 {
     let spec = match typed(alloc, text) {
         Ok(spec) => spec,
         Err(stop) => return Err(stop),
     };
-    match unsound(&spec) {
-        None => Ok(spec),
-        Some(stop) => Err(stop),
+    match sound(alloc, spec) {
+        Ok(sound) => Ok(sound),
+        Err((_, fault)) => Err(stop_of_soundness(fault)),
     }
 }
 

@@ -122,7 +122,7 @@ fn compiled(alloc: Global, text: &[u8], name: &str) -> Result<Texts, Outcome>
         Ok(spec) => spec,
         Err(stop) => return Err(stop),
     };
-    match program_texts(alloc, &spec, name) {
+    match program_texts(alloc, spec.spec(), name) {
         Ok(texts) => Ok(texts),
         Err(AllocError) => Err(Outcome::NoMemory),
     }

@@ -1,0 +1,13 @@
+pub mod Lists
+pub mod Walking
+pub mod Closing
+pub mod Places
+pub mod Ends
+pub mod Turns
+pub mod Counting
+pub mod Heavy
+pub mod Each
+pub mod FourDefs
+pub mod Many
+pub mod Doubled
+pub mod Grows

@@ -1,0 +1,19 @@
+//! From a well typed specification to a sound one.
+//! In: a typed specification. Out: the same one, known to have no ring of defs and to keep the limits; or its first fault.
+//! The faults are defined in specs/Soundness.antt of `stream_core`.
+#![tactic(auto)]
+
+mod accepted;
+mod edges;
+mod fault;
+mod judge;
+mod roots;
+mod sizes;
+mod walk;
+
+pub use accepted::Sound;
+pub use fault::SoundFault;
+pub use judge::sound;
+
+#[cfg(test)]
+mod tests;
