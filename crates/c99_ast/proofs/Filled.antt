@@ -1,20 +1,20 @@
 -- How the words that values leave follow from those that their parts leave.
 use Rattle.std.proofs.Common.{◌≡◌, ℕ, zero, suc, ◌+◌, ◌<◌, max, List, [], ◌∷◌, Bool, true, false, ◌&&◌, Option, Some, None, refl, sym, ap, ◌∙◌, arith}
 use Rattle.std.specs.Prelude.{nat_le, if◌then◌else◌, IsSome}
-use Rattle.c99_ast.specs.declared.types.CScalar.{CScalar}
-use Rattle.c99_ast.specs.declared.types.CDef.{CDef}
-use Rattle.c99_ast.specs.declared.types.CTy.TheVariants as ty
-use Rattle.c99_ast.specs.Words.{elem_type}
-use Rattle.c99_ast.specs.Lookup.{fields_of}
-use Rattle.c99_ast.proofs.Sizes.{shape_within-suc, shape_within-zero, shape-Array, shape-Struct}
+use Rattle.c99_tree.specs.declared.types.CScalar.{CScalar}
+use Rattle.c99_tree.specs.declared.types.CDef.{CDef}
+use Rattle.c99_tree.specs.declared.types.CTy.TheVariants as ty
+use Rattle.c99_tree.specs.Words.{elem_type}
+use Rattle.c99_tree.specs.Lookup.{fields_of}
+use Rattle.c99_tree.proofs.Shapes.{shape_within-suc, shape_within-zero, shape-Array, shape-Struct}
 use Rattle.std.specs.Option.{option_map, option_and_then}
 use Rattle.std.specs.List.{list_all}
 use Rattle.std.proofs.lemmas.Bool.Decides.{nat_tests}
-use Rattle.c99_ast.specs.declared.types.CTy.{CTy}
-use Rattle.c99_ast.specs.declared.types.CVar.{CVar}
-use Rattle.c99_ast.specs.Values.{Value, Values, and_value, values, Shape, Shapes, and_shape, elements, members, array_of, struct_of, scalar, filled, filled_all, repeated, shape_within, shapes_of_fields}
-use Rattle.c99_ast.specs.Spelling.{constant_height, highest_constant}
-use Rattle.c99_ast.specs.Filling.{low_value, low_values, low_list, left_of, left_of_all, left_of_times}
+use Rattle.c99_tree.specs.declared.types.CTy.{CTy}
+use Rattle.c99_tree.specs.declared.types.CVar.{CVar}
+use Rattle.c99_tree.specs.Values.{Value, Values, and_value, values, Shape, Shapes, and_shape, elements, members, array_of, struct_of, scalar, filled, filled_all, repeated, shape_within, shapes_of_fields}
+use Rattle.c99_tree.specs.Spelling.{constant_height, highest_constant}
+use Rattle.c99_tree.specs.Filling.{low_value, low_values, low_list, left_of, left_of_all, left_of_times}
 
 -- a maximum is within a bound where both are
 max_le : (a b m : ℕ) → nat_le (max a b) m ≡ (nat_le a m && nat_le b m)

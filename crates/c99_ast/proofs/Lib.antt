@@ -1,9 +1,3 @@
-pub mod Filled
-pub mod Soundness
-pub mod Whole
-pub mod Parting
-pub mod Runs
-pub mod Counts
-pub mod Shaped
 pub mod Sizes
-pub mod Rows
+pub mod Filled
+pub mod Parting

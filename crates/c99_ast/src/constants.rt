@@ -1,18 +1,15 @@
 // Whether a ring has its constants.
-ghost use Rattle.std.specs.Prelude.{◌≡◌, MatchOption, IsSome, nat_le, Some};
-ghost use Rattle.c99_ast.specs.Values as values;
-ghost use Rattle.c99_ast.specs.Spelling as spelling;
-ghost use Rattle.c99_ast.specs.Rules as rules;
-ghost use Rattle.c99_ast.specs.Words as words;
-ghost use Rattle.c99_ast.specs.Values.{is_word, scalar, shape_within, shape_of, shapes_of_fields};
-ghost use Rattle.c99_ast.specs.Filling.{left_of, left_of_all, left_of_times};
-ghost use Rattle.c99_ast.specs.declared.types.CTy.TheVariants as ty;
+ghost use Rattle.std.specs.Prelude.{◌≡◌, IsSome, nat_le, Some};
+ghost use Rattle.c99_tree.specs.Lookup.{Lends};
+ghost use Rattle.c99_tree.specs.Values as values;
+ghost use Rattle.c99_tree.specs.Spelling as spelling;
+ghost use Rattle.c99_tree.specs.Rules as rules;
+ghost use Rattle.c99_tree.specs.Words as words;
+ghost use Rattle.c99_tree.specs.Values.{is_word, scalar, shape_within, shape_of, shapes_of_fields};
+ghost use Rattle.c99_tree.specs.Filling.{left_of, left_of_all, left_of_times};
+ghost use Rattle.c99_tree.specs.declared.types.CTy.TheVariants as ty;
 
-use crate::heights::MOST_HEIGHT;
-use crate::lookup::fields_of;
-use crate::types::{CDef, CScalar, CTy, CVar};
-use crate::unit::CRing;
-use crate::words::element_scalar;
+use c99_tree::{CDef, CRing, CScalar, CTy, CVar, MOST_HEIGHT, element_scalar, fields_of};
 use sm_io::Name;
 
 // Whether the word is one of the type.
@@ -45,7 +42,7 @@ fn is_low_number(t: CScalar, w: u64, most: u32) -> bool
 }
 
 fn left_of_scalar<'a>(t: CScalar, most: u32, given: &'a [u64]) -> Option<&'a [u64]>
-    ensures { MatchOption result (left_of most (Some (scalar t)) given.now ≡ None) (λ rest. left_of most (Some (scalar t)) given.now ≡ Some rest.now) }
+    ensures { Lends result (left_of most (Some (scalar t)) given.now) }
 {
     let [w, rest @ ..] = given else {
         return None;
@@ -69,7 +66,7 @@ fn left_of<'a>(
     given: &'a [u64],
 ) -> Option<&'a [u64]>
     requires { IsSome (shape_within depth types.now ty.now) }
-    ensures { MatchOption result (left_of most (shape_within depth types.now ty.now) given.now ≡ None) (λ rest. left_of most (shape_within depth types.now ty.now) given.now ≡ Some rest.now) }
+    ensures { Lends result (left_of most (shape_within depth types.now ty.now) given.now) }
 {
     match ty {
         CTy::Scalar(t) => left_of_scalar(*t, most, given),
@@ -88,7 +85,7 @@ fn left_of_element<'a>(
     given: &'a [u64],
 ) -> Option<&'a [u64]>
     requires { IsSome (shape_within depth types.now (words.elem_type x.now)) }
-    ensures { MatchOption result (left_of most (shape_within depth types.now (words.elem_type x.now)) given.now ≡ None) (λ rest. left_of most (shape_within depth types.now (words.elem_type x.now)) given.now ≡ Some rest.now) }
+    ensures { Lends result (left_of most (shape_within depth types.now (words.elem_type x.now)) given.now) }
 {
     match element_scalar(x) {
         Some(t) => left_of_scalar(t, most, given),
@@ -106,7 +103,7 @@ fn left_of_struct<'a>(
     given: &'a [u64],
 ) -> Option<&'a [u64]>
     requires { IsSome (shape_within depth types.now (ty.Struct x.now)) }
-    ensures { MatchOption result (left_of most (shape_within depth types.now (ty.Struct x.now)) given.now ≡ None) (λ rest. left_of most (shape_within depth types.now (ty.Struct x.now)) given.now ≡ Some rest.now) }
+    ensures { Lends result (left_of most (shape_within depth types.now (ty.Struct x.now)) given.now) }
 {
     let Some(inner) = depth.checked_sub(1) else {
         return None;
@@ -130,7 +127,7 @@ fn left_of_fields<'a>(
     given: &'a [u64],
 ) -> Option<&'a [u64]>
     requires { IsSome (shapes_of_fields (shape_within depth types.now) fields.now) }
-    ensures { MatchOption result (left_of_all most (shapes_of_fields (shape_within depth types.now) fields.now) given.now ≡ None) (λ rest. left_of_all most (shapes_of_fields (shape_within depth types.now) fields.now) given.now ≡ Some rest.now) }
+    ensures { Lends result (left_of_all most (shapes_of_fields (shape_within depth types.now) fields.now) given.now) }
 {
     let mut left = given;
     for field in fields {
@@ -157,7 +154,7 @@ fn left_of_array<'a>(
     given: &'a [u64],
 ) -> Option<&'a [u64]>
     requires { IsSome (shape_within depth types.now (ty.Array x.now n)) }
-    ensures { MatchOption result (left_of most (shape_within depth types.now (ty.Array x.now n)) given.now ≡ None) (λ rest. left_of most (shape_within depth types.now (ty.Array x.now n)) given.now ≡ Some rest.now) }
+    ensures { Lends result (left_of most (shape_within depth types.now (ty.Array x.now n)) given.now) }
 {
     let Some(less) = most.checked_sub(2) else {
         return None;
@@ -176,7 +173,7 @@ fn left_of_elements<'a>(
     given: &'a [u64],
 ) -> Option<&'a [u64]>
     requires { IsSome (shape_within depth types.now (words.elem_type x.now)) }
-    ensures { MatchOption result (left_of_times most n (shape_within depth types.now (words.elem_type x.now)) given.now ≡ None) (λ rest. left_of_times most n (shape_within depth types.now (words.elem_type x.now)) given.now ≡ Some rest.now) }
+    ensures { Lends result (left_of_times most n (shape_within depth types.now (words.elem_type x.now)) given.now) }
 {
     let mut left = given;
     for i in 0..n {
@@ -206,7 +203,7 @@ pub fn is_filled(types: &[CDef], r: &CRing) -> bool
 // The words that the values of a ring leave.
 fn left_of_values<'a>(types: &[CDef], ty: &CTy, len: u32, given: &'a [u64]) -> Option<&'a [u64]>
     requires { IsSome (shape_of types.now ty.now) }
-    ensures { MatchOption result (left_of_times 8192 len (shape_of types.now ty.now) given.now ≡ None) (λ rest. left_of_times 8192 len (shape_of types.now ty.now) given.now ≡ Some rest.now) }
+    ensures { Lends result (left_of_times 8192 len (shape_of types.now ty.now) given.now) }
 {
     let mut left = given;
     for i in 0..len {

@@ -1,15 +1,14 @@
 // What is asked of type definitions, and of names together.
 ghost use Rattle.std.specs.Prelude.{◌≡◌, map, nat_eq, ◌&&◌, ◌++◌, [], ◌∷◌};
 ghost use Rattle.std.specs.List.{list_any, list_all};
-ghost use Rattle.c99_ast.specs.Words as words;
-ghost use Rattle.c99_ast.specs.Lookup as lookup;
-ghost use Rattle.c99_ast.specs.Lookup.{structs_in, arrays_in};
-ghost use Rattle.c99_ast.specs.WellFormed as spec;
+ghost use Rattle.c99_tree.specs.Words as words;
+ghost use Rattle.c99_tree.specs.Lookup as lookup;
+ghost use Rattle.c99_tree.specs.Lookup.{structs_in, arrays_in};
+ghost use Rattle.c99_tree.specs.WellFormed as spec;
 
-use crate::lookup::{has_array, has_struct, is_defined, is_same};
-use crate::types::{CDef, CProto, CVar};
-use crate::unit::CRing;
-use crate::words::element_scalar;
+use c99_tree::{
+    CDef, CProto, CVar, Named, element_scalar, has_array, has_struct, is_defined, is_same,
+};
 use sm_io::Name;
 
 fn has_struct_name(types: &[CDef], x: &Name) -> bool
@@ -50,71 +49,25 @@ pub fn are_distinct_arrays(types: &[CDef]) -> bool
     true
 }
 
-fn has_var(vars: &[CVar], x: &Name) -> bool
-    ensures { result ≡ list_any (words.is_same x.now) (map (λ v. v.name) vars.now) }
+// Whether something of this name stands here.
+fn has_name<T: Named>(all: &[T], x: &Name) -> bool
+    ensures { result ≡ list_any (words.is_same x.now) (map T.named all.now) }
 {
-    for v in vars {
-        if is_same(x, &v.name) {
+    for y in all {
+        if is_same(x, y.name()) {
             return true;
         }
     }
     false
 }
 
-fn has_handler(handlers: &[CProto], x: &Name) -> bool
-    ensures { result ≡ list_any (words.is_same x.now) (map (λ h. h.name) handlers.now) }
+// No two of one name.
+pub fn are_distinct_names<T: Named>(all: &[T]) -> bool
+    ensures { result ≡ spec.are_distinct words.is_same (map T.named all.now) }
 {
-    for h in handlers {
-        if is_same(x, &h.name) {
-            return true;
-        }
-    }
-    false
-}
-
-fn has_ring(rings: &[CRing], x: &Name) -> bool
-    ensures { result ≡ list_any (words.is_same x.now) (map (λ r. r.name) rings.now) }
-{
-    for r in rings {
-        if is_same(x, &r.name) {
-            return true;
-        }
-    }
-    false
-}
-
-pub fn are_distinct_vars(vars: &[CVar]) -> bool
-    ensures { result ≡ spec.are_distinct words.is_same (map (λ v. v.name) vars.now) }
-{
-    let mut left = vars;
-    while let [v, rest @ ..] = left {
-        if has_var(rest, &v.name) {
-            return false;
-        }
-        left = rest;
-    }
-    true
-}
-
-pub fn are_distinct_rings(rings: &[CRing]) -> bool
-    ensures { result ≡ spec.are_distinct words.is_same (map (λ r. r.name) rings.now) }
-{
-    let mut left = rings;
-    while let [r, rest @ ..] = left {
-        if has_ring(rest, &r.name) {
-            return false;
-        }
-        left = rest;
-    }
-    true
-}
-
-fn are_distinct_handlers(handlers: &[CProto]) -> bool
-    ensures { result ≡ spec.are_distinct words.is_same (map (λ h. h.name) handlers.now) }
-{
-    let mut left = handlers;
-    while let [h, rest @ ..] = left {
-        if has_handler(rest, &h.name) {
+    let mut left = all;
+    while let [y, rest @ ..] = left {
+        if has_name(rest, y.name()) {
             return false;
         }
         left = rest;
@@ -128,22 +81,22 @@ pub fn are_distinct_outside(externs: &[CVar], handlers: &[CProto]) -> bool
 {
     let mut left = externs;
     while let [x, rest @ ..] = left {
-        if has_var(rest, &x.name) {
+        if has_name(rest, &x.name) {
             return false;
         }
-        if has_handler(handlers, &x.name) {
+        if has_name(handlers, &x.name) {
             return false;
         }
         left = rest;
     }
-    are_distinct_handlers(handlers)
+    are_distinct_names(handlers)
 }
 
 pub fn are_distinct_fields(def: &CDef) -> bool
     ensures { result ≡ spec.are_distinct_fields def.now }
 {
     match def {
-        CDef::Struct { name: _, fields } => are_distinct_vars(fields.as_slice()),
+        CDef::Struct { name: _, fields } => are_distinct_names(fields.as_slice()),
         CDef::Array { elem: _, n: _ } => true,
     }
 }

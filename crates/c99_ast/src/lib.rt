@@ -1,16 +1,12 @@
-//! Programs of a small subset of C99, as trees.
-//! In: nothing. Out: the tree of a program, and whether it is well formed, how much static storage it defines and
-//! how many operators one call of its step can meet.
-//! The definitions of its spelling and of its meaning stand in specs/, each beside the section of ISO/IEC 9899:1999
-//! that it restates.
+//! Whether a program of the C subset is well formed, and its totals.
+//! In: a `Unit` of `c99_tree`, whose items this crate gives out too. Out: whether it is well formed, how many bytes of
+//! static storage it defines, and how many operators one call of its step can meet.
+//! specs/WellFormed.antt, Storage.antt and Weight.antt of c99_tree define them; the calls are `well_formed`, `storage`
+//! and `unit_weight`.
 #![tactic(auto)]
 
 mod constants;
 mod definitions;
-mod expr;
-mod heights;
-mod laws;
-mod lookup;
 mod naming;
 mod order;
 mod parts;
@@ -18,22 +14,17 @@ mod rules;
 mod statements;
 mod statics;
 mod totals;
-mod types;
-mod typing;
-mod undefined;
-mod unit;
 mod weight;
-mod words;
 
-pub use expr::{CBin, CExpr, CLit, CUn};
-pub use laws::{
-    count_is_within_weight, run_goes_on, run_reads_first_rows, step_reads_statics_and_row,
+pub use c99_tree::{
+    CBin, CDef, CExpr, CLit, CProto, CRing, CScalar, CStmt, CTy, CUn, CVar, Kind, MOST_HEIGHT,
+    Named, Undefined, Unit, count_is_within_weight, element_scalar, fields_of, fits_in, handler_of,
+    has_array, has_struct, is_defined, is_element, is_low, is_ring_name, is_same, kind_of,
+    operator, ring_of, run_goes_on, run_reads_first_rows, scalar_name, sign,
+    step_reads_statics_and_row, suffix, type_of, var_of,
 };
 pub use rules::well_formed;
 pub use statics::storage;
-pub use types::{CDef, CProto, CScalar, CTy, CVar};
-pub use undefined::Undefined;
-pub use unit::{CRing, CStmt, Unit};
 pub use weight::unit_weight;
 
 #[cfg(test)]

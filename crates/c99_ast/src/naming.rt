@@ -1,11 +1,9 @@
 // Whether the names of a unit are names.
 ghost use Rattle.std.specs.Prelude.{◌≡◌};
 ghost use Rattle.std.specs.List.{list_all};
-ghost use Rattle.c99_ast.specs.WellFormed as spec;
+ghost use Rattle.c99_tree.specs.WellFormed as spec;
 
-use crate::types::{CDef, CProto, CTy, CVar};
-use crate::unit::CRing;
-use crate::words::{is_element, is_ring_name};
+use c99_tree::{CDef, CProto, CRing, CTy, CVar, is_element, is_ring_name};
 use sm_io::is_name;
 
 pub fn has_names_type(ty: &CTy) -> bool

@@ -1,13 +1,11 @@
 // What is asked of a statement by those before it.
 ghost use Rattle.std.specs.Prelude.{◌≡◌, map, []};
 ghost use Rattle.std.specs.List.{list_all, list_any, filter_map, flat_map};
-ghost use Rattle.c99_ast.specs.Words as words;
-ghost use Rattle.c99_ast.specs.Tree.{tree, exprs, statement};
-ghost use Rattle.c99_ast.specs.WellFormed as spec;
+ghost use Rattle.c99_tree.specs.Words as words;
+ghost use Rattle.c99_tree.specs.Tree.{tree, exprs, statement};
+ghost use Rattle.c99_tree.specs.WellFormed as spec;
 
-use crate::expr::CExpr;
-use crate::lookup::is_same;
-use crate::unit::CStmt;
+use c99_tree::{CExpr, CStmt, is_same};
 use sm_io::Name;
 
 fn is_copied(before: &[CStmt], x: &Name) -> bool
@@ -38,7 +36,7 @@ fn has_next(before: &[CStmt], r: &Name) -> bool
 
 // Each copy in an expression was made before.
 #[cycle(reading)]
-#[tactic(auto, using(crate::specs::TreeLaws::tree_laws, crate::proofs::Parting::parting_laws))]
+#[tactic(auto, using(c99_tree::specs::TreeLaws::tree_laws, crate::proofs::Parting::parting_laws))]
 fn reads_copied(before: &[CStmt], e: &CExpr) -> bool
     ensures { result ≡ list_all (spec.is_read_after_copy (map statement before.now)) (spec.parts_of (tree e.now)) }
 {
@@ -61,7 +59,7 @@ fn reads_copied(before: &[CStmt], e: &CExpr) -> bool
 }
 
 #[cycle(reading)]
-#[tactic(auto, using(crate::specs::TreeLaws::tree_laws, crate::proofs::Parting::parting_laws))]
+#[tactic(auto, using(c99_tree::specs::TreeLaws::tree_laws, crate::proofs::Parting::parting_laws))]
 fn read_copied(before: &[CStmt], all: &[CExpr]) -> bool
     ensures { result ≡ list_all (spec.is_read_after_copy (map statement before.now)) (spec.parts_of_all (exprs (map tree all.now))) }
 {

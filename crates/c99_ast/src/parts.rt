@@ -1,15 +1,14 @@
 // What is asked of each part of an expression.
 ghost use Rattle.std.specs.Prelude.{◌≡◌, map};
 ghost use Rattle.std.specs.List.{list_all};
-ghost use Rattle.c99_ast.specs.Tree.{tree, exprs};
-ghost use Rattle.c99_ast.specs.Checks.{is_sound_part};
-ghost use Rattle.c99_ast.specs.Spelling as spelling;
-ghost use Rattle.c99_ast.specs.WellFormed.{parts_of, parts_of_all, has_index, has_no_index};
+ghost use Rattle.c99_tree.specs.Tree.{tree, exprs};
+ghost use Rattle.c99_tree.specs.Checks.{is_sound_part};
+ghost use Rattle.c99_tree.specs.Spelling as spelling;
+ghost use Rattle.c99_tree.specs.WellFormed.{parts_of, parts_of_all, has_index, has_no_index};
 
-use crate::expr::{CExpr, CLit};
-use crate::lookup::{has_array, has_struct, ring_of, var_of};
-use crate::unit::Unit;
-use crate::words::{is_element, is_ring_name};
+use c99_tree::{
+    CExpr, CLit, Unit, has_array, has_struct, is_element, is_ring_name, ring_of, var_of,
+};
 use sm_io::{Name, is_name};
 
 fn most(k: CLit) -> u64
@@ -44,7 +43,7 @@ pub fn has_no_index(unit: &Unit, r: &Name) -> bool
 }
 
 // One part by itself.
-#[tactic(auto, using(crate::specs::TreeLaws::tree_laws))]
+#[tactic(auto, using(c99_tree::specs::TreeLaws::tree_laws))]
 fn is_sound_part(unit: &Unit, e: &CExpr) -> bool
     ensures { result ≡ is_sound_part unit.now (tree e.now) }
 {
@@ -70,7 +69,7 @@ fn is_sound_part(unit: &Unit, e: &CExpr) -> bool
 
 // Each part of an expression.
 #[cycle(parting)]
-#[tactic(auto, using(crate::specs::TreeLaws::tree_laws, crate::proofs::Parting::parting_laws))]
+#[tactic(auto, using(c99_tree::specs::TreeLaws::tree_laws, crate::proofs::Parting::parting_laws))]
 pub fn are_sound_parts(unit: &Unit, e: &CExpr) -> bool
     ensures { result ≡ list_all (is_sound_part unit.now) (parts_of (tree e.now)) }
 {
@@ -100,7 +99,7 @@ pub fn are_sound_parts(unit: &Unit, e: &CExpr) -> bool
 }
 
 #[cycle(parting)]
-#[tactic(auto, using(crate::specs::TreeLaws::tree_laws, crate::proofs::Parting::parting_laws))]
+#[tactic(auto, using(c99_tree::specs::TreeLaws::tree_laws, crate::proofs::Parting::parting_laws))]
 fn are_sound_parts_of(unit: &Unit, all: &[CExpr]) -> bool
     ensures { result ≡ list_all (is_sound_part unit.now) (parts_of_all (exprs (map tree all.now))) }
 {

@@ -1,27 +1,25 @@
 // Whether a program is well formed.
 ghost use Rattle.std.specs.Prelude.{◌≡◌, ◌↔◌, IsTrue, ◌&&◌, is_some, map, nat_le};
 ghost use Rattle.std.specs.List.{list_all};
-ghost use Rattle.c99_ast.specs.Tree.{statement};
-ghost use Rattle.c99_ast.specs.Lookup as lookup;
-ghost use Rattle.c99_ast.specs.Values.{shape_of};
-ghost use Rattle.c99_ast.specs.Checks as checks;
-ghost use Rattle.c99_ast.specs.Rules as rules;
-ghost use Rattle.c99_ast.specs.WellFormed as spec;
-ghost use Rattle.c99_ast.specs.WellFormed.{IsWellFormed};
+ghost use Rattle.c99_tree.specs.Tree.{statement};
+ghost use Rattle.c99_tree.specs.Lookup as lookup;
+ghost use Rattle.c99_tree.specs.Values.{shape_of};
+ghost use Rattle.c99_tree.specs.Checks as checks;
+ghost use Rattle.c99_tree.specs.Rules as rules;
+ghost use Rattle.c99_tree.specs.WellFormed as spec;
+ghost use Rattle.c99_tree.specs.WellFormed.{IsWellFormed};
 
 use crate::constants::is_filled;
 use crate::definitions::{
-    are_built_in_order, are_defined, are_distinct_arrays, are_distinct_fields,
-    are_distinct_outside, are_distinct_rings, are_distinct_structs, has_few_fields, has_length,
+    are_built_in_order, are_defined, are_distinct_arrays, are_distinct_fields, are_distinct_names,
+    are_distinct_outside, are_distinct_structs, has_few_fields, has_length,
 };
-use crate::lookup::is_defined;
 use crate::naming::{has_names_def, has_names_handler, has_names_ring, have_names_vars};
 use crate::order::{are_distinct_nexts, copies_come_first, nexts_come_first};
 use crate::statements::is_sound_statement;
 use crate::statics::storage;
-use crate::types::{CDef, CProto, CTy};
-use crate::unit::{CRing, CStmt, Unit};
 use crate::weight::unit_weight;
+use c99_tree::{CDef, CProto, CRing, CStmt, CTy, Unit, is_defined};
 use sm_io::is_name;
 
 /// Whether the program is well formed: whether it keeps all sixteen rules of the subset. An expression of any height is
@@ -116,7 +114,7 @@ fn names_are_distinct(unit: &Unit) -> bool
 {
     are_distinct_types(unit.types.as_slice())
         && have_distinct_fields(unit.types.as_slice())
-        && are_distinct_rings(unit.rings.as_slice())
+        && are_distinct_names(unit.rings.as_slice())
         && are_distinct_outside(unit.externs.as_slice(), unit.handlers.as_slice())
 }
 

@@ -1,19 +1,16 @@
 // What is asked of a statement by itself.
 ghost use Rattle.std.specs.Prelude.{◌≡◌, map, length, nat_eq};
 ghost use Rattle.std.specs.List.{list_all};
-ghost use Rattle.c99_ast.specs.Tree.{tree, exprs, statement, copies, calls, nexts, stores, moves, puts};
-ghost use Rattle.c99_ast.specs.Typing.{type_of, types_of};
-ghost use Rattle.c99_ast.specs.Checks as checks;
-ghost use Rattle.c99_ast.specs.WellFormed as spec;
+ghost use Rattle.c99_tree.specs.Tree.{tree, exprs, statement, copies, calls, nexts, stores, moves, puts};
+ghost use Rattle.c99_tree.specs.Typing.{type_of, types_of};
+ghost use Rattle.c99_tree.specs.Checks as checks;
+ghost use Rattle.c99_tree.specs.WellFormed as spec;
 
-use crate::expr::CExpr;
-use crate::heights::{MOST_HEIGHT, is_low};
-use crate::lookup::{handler_of, ring_of, var_of};
 use crate::parts::{are_sound_parts, has_index, has_no_index};
-use crate::types::{CScalar, CTy};
-use crate::typing::{Kind, fits_in, kind_of, type_of};
-use crate::unit::{CStmt, Unit};
-use crate::words::is_ring_name;
+use c99_tree::{
+    CExpr, CScalar, CStmt, CTy, Kind, MOST_HEIGHT, Unit, fits_in, handler_of, is_low, is_ring_name,
+    kind_of, ring_of, type_of, var_of,
+};
 use sm_io::{Name, is_name};
 
 fn is_sound_expression(unit: &Unit, e: &CExpr) -> bool

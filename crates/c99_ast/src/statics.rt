@@ -2,17 +2,14 @@
 ghost use Rattle.std.specs.Prelude.{◌≡◌, ◌+◌, ◌≤◌, IsTrue, IsSome, is_some, length};
 ghost use Rattle.std.specs.List.{list_all, sum_by};
 ghost use Rattle.c99_ast.specs.Bound.{up_to_bound};
-ghost use Rattle.c99_ast.specs.Words as words;
-ghost use Rattle.c99_ast.specs.Values.{shape_within, shape_of, shapes_of_fields};
-ghost use Rattle.c99_ast.specs.Storage as spec;
-ghost use Rattle.c99_ast.specs.WellFormed.{types_come_first};
-ghost use Rattle.c99_ast.specs.declared.types.CTy.TheVariants as ty;
+ghost use Rattle.c99_tree.specs.Words as words;
+ghost use Rattle.c99_tree.specs.Values.{shape_within, shape_of, shapes_of_fields};
+ghost use Rattle.c99_tree.specs.Storage as spec;
+ghost use Rattle.c99_tree.specs.WellFormed.{types_come_first};
+ghost use Rattle.c99_tree.specs.declared.types.CTy.TheVariants as ty;
 
-use crate::lookup::fields_of;
 use crate::totals::{BOUND, sum, times};
-use crate::types::{CDef, CScalar, CTy, CVar};
-use crate::unit::{CRing, Unit};
-use crate::words::element_scalar;
+use c99_tree::{CDef, CRing, CScalar, CTy, CVar, Unit, element_scalar, fields_of};
 use sm_io::Name;
 
 /// The bytes of the unit's static objects, without padding: each ring's values, four more for a ring's index, and a copy
@@ -77,7 +74,7 @@ fn scalar_size(t: CScalar) -> u64
 
 // The bytes of a type in which at most `depth` types stand one in another.
 #[cycle(sizing)]
-#[tactic(auto, using(crate::proofs::Sizes::sizes_step))]
+#[tactic(auto, using(c99_tree::proofs::Shapes::shapes_step))]
 fn size_of(depth: usize, types: &[CDef], ty: &CTy) -> u64
     requires { IsSome (shape_within depth types.now ty.now) }
     ensures { result ≡ up_to_bound (spec.size_or_none (shape_within depth types.now ty.now)) }
@@ -90,7 +87,7 @@ fn size_of(depth: usize, types: &[CDef], ty: &CTy) -> u64
 }
 
 #[cycle(sizing)]
-#[tactic(auto, using(crate::proofs::Sizes::sizes_step))]
+#[tactic(auto, using(c99_tree::proofs::Shapes::shapes_step))]
 fn size_of_element(depth: usize, types: &[CDef], x: &Name) -> u64
     requires { IsSome (shape_within depth types.now (words.elem_type x.now)) }
     ensures { result ≡ up_to_bound (spec.size_or_none (shape_within depth types.now (words.elem_type x.now))) }
@@ -102,7 +99,7 @@ fn size_of_element(depth: usize, types: &[CDef], x: &Name) -> u64
 }
 
 #[cycle(sizing)]
-#[tactic(auto, using(crate::proofs::Sizes::sizes_step))]
+#[tactic(auto, using(c99_tree::proofs::Shapes::shapes_step))]
 fn size_of_struct(depth: usize, types: &[CDef], x: &Name) -> u64
     requires { IsSome (shape_within depth types.now (ty.Struct x.now)) }
     ensures { result ≡ up_to_bound (spec.size_or_none (shape_within depth types.now (ty.Struct x.now))) }
@@ -117,7 +114,7 @@ fn size_of_struct(depth: usize, types: &[CDef], x: &Name) -> u64
 }
 
 #[cycle(sizing)]
-#[tactic(auto, using(crate::proofs::Sizes::sizes_step))]
+#[tactic(auto, using(c99_tree::proofs::Shapes::shapes_step))]
 fn size_of_fields(depth: usize, types: &[CDef], fields: &[CVar]) -> u64
     requires { IsSome (shapes_of_fields (shape_within depth types.now) fields.now) }
     ensures { result ≡ up_to_bound (spec.sizes_or_none (shapes_of_fields (shape_within depth types.now) fields.now)) }

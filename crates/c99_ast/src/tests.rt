@@ -1,7 +1,7 @@
 // A small program.
 ghost use Rattle.std.specs.Prelude.{IfOk, IsTrue};
 ghost use Rattle.sm_io.specs.Names.{IsNameBytes};
-ghost use Rattle.c99_ast.specs.WellFormed.{types_come_first};
+ghost use Rattle.c99_tree.specs.WellFormed.{types_come_first};
 
 use super::{
     CBin, CExpr, CLit, CProto, CScalar, CStmt, CTy, CVar, Unit, storage, unit_weight, well_formed,

@@ -1,12 +1,11 @@
 // How many operators one call of a program's step can meet.
 ghost use Rattle.std.specs.Prelude.{◌≡◌, ◌+◌, ◌≤◌, map};
 ghost use Rattle.c99_ast.specs.Bound.{up_to_bound};
-ghost use Rattle.c99_ast.specs.Tree.{tree, exprs, statement};
-ghost use Rattle.c99_ast.specs.Weight.{weight, weights, statement_weight, unit_weight_of};
+ghost use Rattle.c99_tree.specs.Tree.{tree, exprs, statement};
+ghost use Rattle.c99_tree.specs.Weight.{weight, weights, statement_weight, unit_weight_of};
 
-use crate::expr::CExpr;
 use crate::totals::sum;
-use crate::unit::{CStmt, Unit};
+use c99_tree::{CExpr, CStmt, Unit};
 
 /// The number of operators in the unit's step, each counted once, all arms of each choice included: the most that one
 /// call of it can meet. 4,294,967,296 where it is more.
@@ -36,7 +35,7 @@ fn statement_weight(s: &CStmt) -> u64
 }
 
 #[cycle(weighing)]
-#[tactic(auto, using(crate::specs::TreeLaws::tree_laws))]
+#[tactic(auto, using(c99_tree::specs::TreeLaws::tree_laws))]
 fn weight(e: &CExpr) -> u64
     ensures { result ≡ up_to_bound (weight (tree e.now)) }
 {
@@ -63,7 +62,7 @@ fn weight(e: &CExpr) -> u64
 }
 
 #[cycle(weighing)]
-#[tactic(auto, using(crate::specs::TreeLaws::tree_laws))]
+#[tactic(auto, using(c99_tree::specs::TreeLaws::tree_laws))]
 fn weights(all: &[CExpr]) -> u64
     ensures { result ≡ up_to_bound (weights (exprs (map tree all.now))) }
 {

@@ -3,26 +3,24 @@ use Rattle.std.proofs.Common.{◌≡◌, ℕ, zero, suc, ◌+◌, List, [], ◌�
 use Rattle.std.proofs.lemmas.List.{drop_more, drop_all}
 use Rattle.std.specs.Option.{option_map, option_and_then, option_map_or}
 use Rattle.std.specs.List.{find}
-use Rattle.c99_ast.specs.declared.types.CScalar.{CScalar}
-use Rattle.c99_ast.specs.declared.types.CTy.{CTy}
-use Rattle.c99_ast.specs.declared.types.CTy.TheVariants as ty
-use Rattle.c99_ast.specs.declared.types.CVar.{CVar}
-use Rattle.c99_ast.specs.declared.types.CDef.{CDef}
-use Rattle.c99_ast.specs.declared.unit.CRing.{CRing}
-use Rattle.c99_ast.specs.Words.{elem_type, word_of, is_same, scalars}
-use Rattle.c99_ast.specs.Lookup.{fields_of}
-use Rattle.c99_ast.specs.Values.{Value, Values, struct_of, array_of, no_value, and_value, values, Shape, Shapes, scalar, members, elements, and_shape, shape_within, shapes_of_fields, filled, filled_all, repeated, whole, first_values}
-use Rattle.c99_ast.specs.Spelling.{constant, constants}
-use Rattle.c99_ast.proofs.Sizes.{shape_within-zero, shape_within-suc, shape-Array, shape-Struct, elem_type-Scalar}
+use Rattle.c99_tree.specs.declared.types.CScalar.{CScalar}
+use Rattle.c99_tree.specs.declared.types.CTy.{CTy}
+use Rattle.c99_tree.specs.declared.types.CTy.TheVariants as ty
+use Rattle.c99_tree.specs.declared.types.CVar.{CVar}
+use Rattle.c99_tree.specs.declared.types.CDef.{CDef}
+use Rattle.c99_tree.specs.declared.unit.CRing.{CRing}
+use Rattle.c99_tree.specs.Words.{elem_type, word_of, is_same, scalars}
+use Rattle.c99_tree.specs.Lookup.{fields_of}
+use Rattle.c99_tree.specs.Values.{Value, Values, struct_of, array_of, no_value, and_value, values, Shape, Shapes, scalar, members, elements, and_shape, shape_within, shapes_of_fields, filled, filled_all, repeated, whole, first_values}
+use Rattle.c99_tree.specs.Spelling.{constant, constants}
+use Rattle.c99_tree.proofs.Shapes.{shape_within-zero, shape_within-suc, shape-Array, shape-Struct, elem_type-Scalar}
 use Rattle.c99_print.specs.Given.{value_in, members_in, values_in}
+use Rattle.std.proofs.lemmas.Option.{same_Some}
 
 -- ---- options
 
 never : {A : Type 0} {P : Type 0} (a : A) → None ≡ Some a → P
 never a e = absurd (cc e)
-
-some_same : {A : Type 0} (a b : A) → Some a ≡ Some b → a ≡ b
-some_same a b e = cc e
 
 -- ---- scalars by their type
 
@@ -34,7 +32,7 @@ scalar-given (suc n) ds t ws a e = rw (shape_within-suc n ds (ty.Scalar t)) at e
 
 mapped : {B C : Type 0} (o : Option B) (h : B → C) (c : C) → option_map h o ≡ Some c → (b : B) × (o ≡ Some b) × (c ≡ h b)
 mapped None h c e = never c e
-mapped (Some b) h c e = (b, refl, sym (some_same (h b) c e))
+mapped (Some b) h c e = (b, refl, sym (same_Some (h b) c e))
 
 record TwoSteps {A B C : Type 0} (o : Option A) (f : A → Option B) (g : A → B → C) (c : C) : Type 0 where
   pub first : A
@@ -112,15 +110,15 @@ member_step depth ds x xs left before done a m =
       },
     )
 
-pub members_step : (depth : ℕ) (ds : List CDef) (fields : List CVar) (i : ℕ) (x out : CVar) (left before done : List ℕ) (a : Values × List ℕ) → i < length fields → x ≡ get_or fields i out → MembersLeft depth ds (drop i fields) left before done a
+pub members_step : (depth : ℕ) (ds : List CDef) (fields : List CVar) (i : ℕ) (x : CVar) (left before done : List ℕ) (a : Values × List ℕ) → i < length fields → x ≡ get_or fields i x → MembersLeft depth ds (drop i fields) left before done a
     → (v : Value × List ℕ) × (value_in depth ds x.ty left ≡ Some v) × MembersLeft depth ds (drop (i + 1) fields) v.1 (codes ", ") (done ++ before ++ constant v.0) a
-members_step depth ds fields i x out left before done a low is m =
-    let first : drop i fields ≡ x ∷ drop (i + 1) fields = drop_more fields i out low ∙ ap (λ (y : CVar). y ∷ drop (i + 1) fields) (sym is) in
+members_step depth ds fields i x left before done a low is m =
+    let first : drop i fields ≡ x ∷ drop (i + 1) fields = drop_more fields i x low ∙ ap (λ (y : CVar). y ∷ drop (i + 1) fields) (sym is) in
     member_step depth ds x (drop (i + 1) fields) left before done a (rw first at m)
 
 members_over : (depth : ℕ) (ds : List CDef) (fields : List CVar) (left before done : List ℕ) (a : Values × List ℕ) → fields ≡ [] → MembersLeft depth ds fields left before done a → (done ≡ constants [] a.0) × (left ≡ a.1)
 members_over depth ds [] left before done a h m =
-    let is : m.rest ≡ (no_value, left) = sym (some_same (no_value, left) m.rest m.are) in
+    let is : m.rest ≡ (no_value, left) = sym (same_Some (no_value, left) m.rest m.are) in
     (sym (append-nil done) ∙ ap (λ (b : Values × List ℕ). done ++ constants before b.0) (sym is) ∙ m.text, ap (λ (b : Values × List ℕ). b.1) (sym is) ∙ m.behind)
 members_over depth ds (x ∷ xs) left before done a h m = absurd (cc h)
 
@@ -182,7 +180,7 @@ values_step n k depth ds t left before done a h m = value_step k depth ds t left
 
 no_values : (o : Option Shape) (ws : List ℕ) (a : List Value × List ℕ) → option_and_then (λ s. repeated zero (filled s) ws) o ≡ Some a → a ≡ ([], ws)
 no_values None ws a e = never a e
-no_values (Some s) ws a e = sym (some_same ([], ws) a e)
+no_values (Some s) ws a e = sym (same_Some ([], ws) a e)
 
 pub values_end : (n depth : ℕ) (ds : List CDef) (t : CTy) (left before done : List ℕ) (a : List Value × List ℕ) → n ≡ 0 → ValuesLeft n depth ds t left before done a → (done ≡ constants [] (values a.0)) × (left ≡ a.1)
 values_end zero depth ds t left before done a h m =
@@ -194,7 +192,7 @@ values_end (suc n) depth ds t left before done a h m = absurd (omega arith)
 
 whole_is : (o : Option (List Value × List ℕ)) (vs : List Value) → option_and_then whole o ≡ Some vs → o ≡ Some (vs, [])
 whole_is None vs e = never vs e
-whole_is (Some (us, [])) vs e = ap (λ (x : List Value). Some (x, [])) (some_same us vs e)
+whole_is (Some (us, [])) vs e = ap (λ (x : List Value). Some (x, [])) (same_Some us vs e)
 whole_is (Some (us, w ∷ ws)) vs e = never vs e
 
 whole_by : (n : ℕ) (o : Option Shape) (ws : List ℕ) (vs : List Value) → option_and_then (λ s. option_and_then whole (repeated n (filled s) ws)) o ≡ Some vs → option_and_then (λ s. repeated n (filled s) ws) o ≡ Some (vs, [])

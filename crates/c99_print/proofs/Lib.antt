@@ -1,4 +1,3 @@
-pub mod Going
 pub mod Giving
 pub mod Commas
 pub mod Spelled

@@ -7,14 +7,14 @@ use Rattle.std.specs.Fmt.{decimal}
 use Rattle.std.proofs.lemmas.Bool.{and_parts}
 use Rattle.std.proofs.lemmas.Bool.Decides.{nat_tests}
 use Rattle.std.proofs.lemmas.Int.{ints}
-use Rattle.c99_ast.specs.declared.types.CScalar.TheVariants as t
-use Rattle.c99_ast.specs.declared.types.CDef.{CDef}
-use Rattle.c99_ast.specs.declared.types.CDef.TheVariants as def
-use Rattle.c99_ast.specs.declared.unit.CRing.{CRing}
-use Rattle.c99_ast.specs.CTypes.{num}
-use Rattle.c99_ast.specs.Lookup.{arrays_in, named_array}
-use Rattle.c99_ast.specs.Values.{Value, first_values, number_of_word}
-use Rattle.c99_ast.specs.Spelling.{line, with_commas, constant, type_text, pick_line, ring_lines, ring_lines_of, signed_constant}
+use Rattle.c99_tree.specs.declared.types.CScalar.TheVariants as t
+use Rattle.c99_tree.specs.declared.types.CDef.{CDef}
+use Rattle.c99_tree.specs.declared.types.CDef.TheVariants as def
+use Rattle.c99_tree.specs.declared.unit.CRing.{CRing}
+use Rattle.c99_tree.specs.CTypes.{num}
+use Rattle.c99_tree.specs.Lookup.{arrays_in, named_array}
+use Rattle.c99_tree.specs.Values.{Value, first_values, number_of_word}
+use Rattle.c99_tree.specs.Spelling.{line, with_commas, constant, type_text, pick_line, ring_lines, ring_lines_of, signed_constant}
 
 -- ---- signed numbers
 
@@ -61,10 +61,10 @@ indexed-is ds r vs e h = sym (of_values ds r vs e ∙ if_true r.indexed (indexed
 pub single-is : (ds : List CDef) (r : CRing) (vs : List Value) → first_values ds r ≡ Some vs → r.indexed ≡ false → single_text r vs ≡ ring_lines ds r
 single-is ds r vs e h = sym (of_values ds r vs e ∙ if_false r.indexed (indexed_text r vs) (single_text r vs) h)
 
-pub all_at : {X : Type 0} (p : X → Bool) (xs : List X) (i : ℕ) (x out : X) → list_all p xs ≡ true → i < length xs → x ≡ get_or xs i out → p x ≡ true
-all_at p [] i x out h low is = absurd (omega (arith, low))
-all_at p (y ∷ ys) zero x out h low is = rw is (and_parts (p y) (list_all p ys) h).0
-all_at p (y ∷ ys) (suc i) x out h low is = all_at p ys i x out (and_parts (p y) (list_all p ys) h).1 (omega (arith, low)) is
+pub all_at : {X : Type 0} (p : X → Bool) (xs : List X) (i : ℕ) (x : X) → list_all p xs ≡ true → i < length xs → x ≡ get_or xs i x → p x ≡ true
+all_at p [] i x h low is = absurd (omega (arith, low))
+all_at p (y ∷ ys) zero x h low is = rw is (and_parts (p y) (list_all p ys) h).0
+all_at p (y ∷ ys) (suc i) x h low is = all_at p ys i x (and_parts (p y) (list_all p ys) h).1 (omega (arith, low)) is
 
 -- ---- lists of lines
 

@@ -3,36 +3,33 @@ use Rattle.std.proofs.Common.{◌≡◌, ℕ, List, [], ◌∷◌, ◌++◌, Boo
 use Rattle.std.specs.Prelude.{is_some, nat_eq, nat_le}
 use Rattle.std.specs.Option.{option_map_or}
 use Rattle.std.specs.List.{flat_map, filter_map, list_all, list_any}
-use Rattle.std.proofs.lemmas.Bool.{and_parts}
+use Rattle.std.proofs.lemmas.Bool.{and_parts, and_from}
 use Rattle.std.proofs.lemmas.Bool.Decides.{nat_tests}
 use Rattle.std.proofs.lemmas.List.Folds.{list_all-append}
 use Rattle.sm_io.specs.Words.{is_name}
-use Rattle.c99_ast.specs.declared.types.CTy.{CTy}
-use Rattle.c99_ast.specs.declared.types.CTy.TheVariants as ty
-use Rattle.c99_ast.specs.declared.types.CVar.{CVar}
-use Rattle.c99_ast.specs.declared.types.CDef.{CDef}
-use Rattle.c99_ast.specs.declared.types.CDef.TheVariants as def
-use Rattle.c99_ast.specs.declared.types.CProto.{CProto}
-use Rattle.c99_ast.specs.declared.unit.CRing.{CRing}
-use Rattle.c99_ast.specs.declared.unit.Unit.{Unit as CUnit}
-use Rattle.c99_ast.specs.Tree.{Expr, Exprs, lit, yes, no, copy, head, cell, ring_at, un, bin, choose, cast, field, pick, arr, rec, none, more, Stmt, copies, calls, nexts, stores, moves, puts, statements}
-use Rattle.c99_ast.specs.Words.{is_same, is_ring_name, is_element}
-use Rattle.c99_ast.specs.Lookup.{arrays_in, is_array, is_defined, ring_of}
-use Rattle.c99_ast.specs.Values.{Value, first_values}
-use Rattle.c99_ast.specs.Storage.{storage_of}
-use Rattle.c99_ast.specs.Weight.{unit_weight_of}
-use Rattle.c99_ast.specs.Spelling.{most, height, most_height, constant_height, is_u32, is_spelled, are_spelled, is_spelled_type, is_spelled_var, is_spelled_def, is_spelled_handler, is_spelled_ring, is_spelled_here, are_spelled_here, is_spelled_statement, header_text, source_text, HasSpelling, Spells}
-use Rattle.c99_ast.specs.WellFormed.{parts_of, parts_of_all, list_of, expressions_in, parts_in, each_part, each_after, has_names_type, has_names_var, has_names_def, has_names_handler, has_names_ring, has_names_part, has_names_statement, is_there, is_statement_there, is_in_range, is_built_from, has_array_length, has_low_constants, names_are_names, types_are_built_in_order, types_come_first, rings_are_used_their_way, totals_are_right, are_distinct, is_written_after_next, next_of, reads_its_way, writes_its_way, each_statement, IsWellFormed}
-use Rattle.c99_ast.proofs.Soundness.{both, all-join}
+use Rattle.c99_tree.specs.declared.types.CTy.{CTy}
+use Rattle.c99_tree.specs.declared.types.CTy.TheVariants as ty
+use Rattle.c99_tree.specs.declared.types.CVar.{CVar}
+use Rattle.c99_tree.specs.declared.types.CDef.{CDef}
+use Rattle.c99_tree.specs.declared.types.CDef.TheVariants as def
+use Rattle.c99_tree.specs.declared.types.CProto.{CProto}
+use Rattle.c99_tree.specs.declared.unit.CRing.{CRing}
+use Rattle.c99_tree.specs.declared.unit.Unit.{Unit as CUnit}
+use Rattle.c99_tree.specs.Tree.{Expr, Exprs, lit, yes, no, copy, head, cell, ring_at, un, bin, choose, cast, field, pick, arr, rec, none, more, Stmt, copies, calls, nexts, stores, moves, puts, statements}
+use Rattle.c99_tree.specs.Words.{is_same, is_ring_name, is_element}
+use Rattle.c99_tree.specs.Lookup.{arrays_in, is_array, is_defined, ring_of}
+use Rattle.c99_tree.specs.Values.{Value, first_values}
+use Rattle.c99_tree.specs.Storage.{storage_of}
+use Rattle.c99_tree.specs.Weight.{unit_weight_of}
+use Rattle.c99_tree.specs.Spelling.{most, height, most_height, constant_height, is_u32, is_spelled, are_spelled, is_spelled_type, is_spelled_var, is_spelled_def, is_spelled_handler, is_spelled_ring, is_spelled_here, are_spelled_here, is_spelled_statement, header_text, source_text, HasSpelling, Spells}
+use Rattle.c99_tree.specs.WellFormed.{parts_of, parts_of_all, list_of, expressions_in, parts_in, each_part, each_after, has_names_type, has_names_var, has_names_def, has_names_handler, has_names_ring, has_names_part, has_names_statement, is_there, is_statement_there, is_in_range, is_built_from, has_array_length, has_low_constants, names_are_names, types_are_built_in_order, types_come_first, rings_are_used_their_way, totals_are_right, are_distinct, is_written_after_next, next_of, reads_its_way, writes_its_way, each_statement, IsWellFormed}
+use Rattle.c99_tree.proofs.Soundness.{all-join}
+use Rattle.sm_io.proofs.Truths.{either_says, all-flat_map}
 
 -- ---- tests
 
-either : {P : Type 0} (a b : Bool) → (a ≡ true → P) → (b ≡ true → P) → (a || b) ≡ true → P
-either true b f g h = f refl
-either false b f g h = g h
-
 all-both : {X : Type 0} (p q : X → Bool) (xs : List X) → list_all p xs ≡ true → list_all q xs ≡ true → list_all (λ x. p x && q x) xs ≡ true
-all-both p q xs h g = all-join p q (λ x. p x && q x) (λ x a b. both (p x) (q x) a b) xs h g
+all-both p q xs h g = all-join p q (λ x. p x && q x) (λ x a b. and_from (p x) (q x) a b) xs h g
 
 small : (n m : ℕ) → nat_le n m ≡ true → nat_le m 4294967295 ≡ true → nat_le n 4294967295 ≡ true
 small n m h g = grind (arith, nat_tests)
@@ -60,17 +57,17 @@ any-short : (x : List ℕ) (n : ℕ) (as' : List (List ℕ × ℕ)) → list_all
 any-short x n [] h g = absurd (cc g)
 any-short x n (a ∷ all) h g =
     let p = and_parts (has_array_length a) (list_all has_array_length all) h in
-    either (is_array x n a) (list_any (is_array x n) all) (λ s. array-short x n a p.0 s) (λ s. any-short x n all p.1 s) g
+    either_says (is_array x n a) (list_any (is_array x n) all) (λ s. array-short x n a p.0 s) (λ s. any-short x n all p.1 s) g
 
 type-spelled : (ds : List CDef) → list_all has_short ds ≡ true → (t : CTy) → has_names_type t ≡ true → is_defined ds t ≡ true → is_spelled_type t ≡ true
 type-spelled ds s (ty.Scalar t) h g = refl
 type-spelled ds s (ty.Struct x) h g = h
-type-spelled ds s (ty.Array x n) h g = both (is_element x) (is_u32 n) h (any-short x n (arrays_in ds) (arrays-short ds ∙ s) g)
+type-spelled ds s (ty.Array x n) h g = and_from (is_element x) (is_u32 n) h (any-short x n (arrays_in ds) (arrays-short ds ∙ s) g)
 
 var-spelled : (ds : List CDef) → list_all has_short ds ≡ true → (x : CVar) → has_names_var x ≡ true → is_defined ds x.ty ≡ true → is_spelled_var x ≡ true
 var-spelled ds s x h g =
     let p = and_parts (is_name x.name) (has_names_type x.ty) h in
-    both (is_name x.name) (is_spelled_type x.ty) p.0 (type-spelled ds s x.ty p.1 g)
+    and_from (is_name x.name) (is_spelled_type x.ty) p.0 (type-spelled ds s x.ty p.1 g)
 
 vars-spelled : (ds : List CDef) → list_all has_short ds ≡ true → (xs : List CVar) → list_all has_names_var xs ≡ true → list_all (λ x. is_defined ds x.ty) xs ≡ true → list_all is_spelled_var xs ≡ true
 vars-spelled ds s xs h g = all-join has_names_var (λ (x : CVar). is_defined ds x.ty) is_spelled_var (var-spelled ds s) xs h g
@@ -79,8 +76,8 @@ def-spelled : (ds : List CDef) → list_all has_short ds ≡ true → (d : CDef)
 unfolding has_short
 def-spelled ds s (def.Struct x fields) k h g =
     let p = and_parts (is_name x) (list_all has_names_var fields) h in
-    both (is_name x) (list_all is_spelled_var fields) p.0 (vars-spelled ds s fields p.1 g)
-def-spelled ds s (def.Array x n) k h g = both (is_element x) (is_u32 n) h (small n 1024 (and_parts (nat_le 1 n) (nat_le n 1024) k).1 refl)
+    and_from (is_name x) (list_all is_spelled_var fields) p.0 (vars-spelled ds s fields p.1 g)
+def-spelled ds s (def.Array x n) k h g = and_from (is_element x) (is_u32 n) h (small n 1024 (and_parts (nat_le 1 n) (nat_le n 1024) k).1 refl)
 
 defs-spelled : (before ds : List CDef) → list_all has_short before ≡ true → list_all has_short ds ≡ true → list_all has_names_def ds ≡ true → each_after is_built_from before ds ≡ true → list_all is_spelled_def ds ≡ true
 defs-spelled before [] b s h g = refl
@@ -89,13 +86,13 @@ defs-spelled before (d ∷ ds) b s h g =
     let hp = and_parts (has_names_def d) (list_all has_names_def ds) h in
     let gp = and_parts (is_built_from before d) (each_after is_built_from (before ++ d ∷ []) ds) g in
     let more_short : list_all has_short (before ++ d ∷ []) ≡ true =
-    list_all-append has_short before (d ∷ []) ∙ both (list_all has_short before) (has_short d && true) b (both (has_short d) true sp.0 refl) in
-    both (is_spelled_def d) (list_all is_spelled_def ds) (def-spelled before b d sp.0 hp.0 gp.0) (defs-spelled (before ++ d ∷ []) ds more_short sp.1 hp.1 gp.1)
+    list_all-append has_short before (d ∷ []) ∙ and_from (list_all has_short before) (has_short d && true) b (and_from (has_short d) true sp.0 refl) in
+    and_from (is_spelled_def d) (list_all is_spelled_def ds) (def-spelled before b d sp.0 hp.0 gp.0) (defs-spelled (before ++ d ∷ []) ds more_short sp.1 hp.1 gp.1)
 
 handler-spelled : (ds : List CDef) → list_all has_short ds ≡ true → (h : CProto) → has_names_handler h ≡ true → list_all (is_defined ds) h.params ≡ true → is_spelled_handler h ≡ true
 handler-spelled ds s h n g =
     let p = and_parts (is_name h.name) (list_all has_names_type h.params) n in
-    both (is_name h.name) (list_all is_spelled_type h.params) p.0 (all-join has_names_type (is_defined ds) is_spelled_type (type-spelled ds s) h.params p.1 g)
+    and_from (is_name h.name) (list_all is_spelled_type h.params) p.0 (all-join has_names_type (is_defined ds) is_spelled_type (type-spelled ds s) h.params p.1 g)
 
 -- ---- rings
 
@@ -116,9 +113,9 @@ ring-spelled ds s r k =
     let p = and_parts (is_ring_name r.name) (has_names_type r.ty) k.named in
     let short = small r.len 65536 (and_parts (nat_le 1 r.len) (nat_le r.len 65536) k.long).1 refl in
     let low = low-constants (first_values ds r) (list_all (λ v. nat_le (constant_height v) most_height)) k.filled_is k.low in
-    both (is_ring_name r.name && is_spelled_type r.ty && is_u32 r.len && (r.indexed || nat_eq r.len 1)) (option_map_or (list_all (λ v. nat_le (constant_height v) most_height)) (first_values ds r) false)
-    (both (is_ring_name r.name && is_spelled_type r.ty && is_u32 r.len) (r.indexed || nat_eq r.len 1)
-    (both (is_ring_name r.name && is_spelled_type r.ty) (is_u32 r.len) (both (is_ring_name r.name) (is_spelled_type r.ty) p.0 (type-spelled ds s r.ty p.1 k.defined)) short) k.single) low
+    and_from (is_ring_name r.name && is_spelled_type r.ty && is_u32 r.len && (r.indexed || nat_eq r.len 1)) (option_map_or (list_all (λ v. nat_le (constant_height v) most_height)) (first_values ds r) false)
+    (and_from (is_ring_name r.name && is_spelled_type r.ty && is_u32 r.len) (r.indexed || nat_eq r.len 1)
+    (and_from (is_ring_name r.name && is_spelled_type r.ty) (is_u32 r.len) (and_from (is_ring_name r.name) (is_spelled_type r.ty) p.0 (type-spelled ds s r.ty p.1 k.defined)) short) k.single) low
 
 rings-spelled : (ds : List CDef) → list_all has_short ds ≡ true → (rs : List CRing) → list_all has_names_ring rs ≡ true → list_all (λ r. is_defined ds r.ty) rs ≡ true → list_all (λ r. nat_le 1 r.len && nat_le r.len 65536) rs ≡ true
     → list_all (λ r. r.indexed || nat_eq r.len 1) rs ≡ true → list_all (λ r. is_some (first_values ds r)) rs ≡ true → list_all (has_low_constants ds) rs ≡ true → list_all (is_spelled_ring ds) rs ≡ true
@@ -130,7 +127,7 @@ rings-spelled ds s (r ∷ rs) a b c d e f =
     let dp = and_parts (r.indexed || nat_eq r.len 1) (list_all (λ x. x.indexed || nat_eq x.len 1) rs) d in
     let ep = and_parts (is_some (first_values ds r)) (list_all (λ x. is_some (first_values ds x)) rs) e in
     let fp = and_parts (has_low_constants ds r) (list_all (has_low_constants ds) rs) f in
-    both (is_spelled_ring ds r) (list_all (is_spelled_ring ds) rs)
+    and_from (is_spelled_ring ds r) (list_all (is_spelled_ring ds) rs)
     (ring-spelled ds s r (record { named = ap'.0; defined = bp.0; long = cp.0; single = dp.0; filled_is = ep.0; low = fp.0 }))
     (rings-spelled ds s rs ap'.1 bp.1 cp.1 dp.1 ep.1 fp.1)
 
@@ -167,8 +164,8 @@ part-spelled u s (bin op a b) h g = refl
 part-spelled u s (choose c a b) h g = refl
 part-spelled u s (cast t a) h g = refl
 part-spelled u s (field a x) h g = (and_parts (is_name x) true h).0
-part-spelled u s (pick x n a i) h g = both (is_element x) (is_u32 n) (and_parts (is_element x) true h).0 (any-short x n (arrays_in u.types) (arrays-short u.types ∙ s) g)
-part-spelled u s (arr x n all) h g = both (is_element x) (is_u32 n) (and_parts (is_element x) true h).0 (any-short x n (arrays_in u.types) (arrays-short u.types ∙ s) g)
+part-spelled u s (pick x n a i) h g = and_from (is_element x) (is_u32 n) (and_parts (is_element x) true h).0 (any-short x n (arrays_in u.types) (arrays-short u.types ∙ s) g)
+part-spelled u s (arr x n all) h g = and_from (is_element x) (is_u32 n) (and_parts (is_element x) true h).0 (any-short x n (arrays_in u.types) (arrays-short u.types ∙ s) g)
 part-spelled u s (rec x all) h g = (and_parts (is_name x) true h).0
 
 abbrev each : Expr → Bool
@@ -187,59 +184,55 @@ mutual
   spelled-parts (cell r) h = (and_parts (is_ring_name r) true h).0
   spelled-parts (ring_at r a) h =
       let p = and_parts (is_ring_name r) (each a) h in
-      both (is_ring_name r) (is_spelled a) p.0 (spelled-parts a p.1)
+      and_from (is_ring_name r) (is_spelled a) p.0 (spelled-parts a p.1)
   spelled-parts (un op a) h = spelled-parts a h
   spelled-parts (bin op a b) h =
       let p = two a b h in
-      both (is_spelled a) (is_spelled b) (spelled-parts a p.0) (spelled-parts b p.1)
+      and_from (is_spelled a) (is_spelled b) (spelled-parts a p.0) (spelled-parts b p.1)
   spelled-parts (choose c a b) h =
       let p = and_parts (each c) (list_all is_spelled_part (parts_of a ++ parts_of b)) (sym (list_all-append is_spelled_part (parts_of c) (parts_of a ++ parts_of b)) ∙ h) in
       let q = two a b p.1 in
-      both (is_spelled c && is_spelled a) (is_spelled b) (both (is_spelled c) (is_spelled a) (spelled-parts c p.0) (spelled-parts a q.0)) (spelled-parts b q.1)
+      and_from (is_spelled c && is_spelled a) (is_spelled b) (and_from (is_spelled c) (is_spelled a) (spelled-parts c p.0) (spelled-parts a q.0)) (spelled-parts b q.1)
   spelled-parts (cast t a) h = spelled-parts a h
   spelled-parts (field a x) h =
       let p = and_parts (is_name x) (each a) h in
-      both (is_spelled a) (is_name x) (spelled-parts a p.1) p.0
+      and_from (is_spelled a) (is_name x) (spelled-parts a p.1) p.0
   spelled-parts (pick x n a i) h =
       let p = and_parts (is_element x && is_u32 n) (list_all is_spelled_part (parts_of a ++ parts_of i)) h in
       let q = two a i p.1 in
-      both (is_element x && is_u32 n && is_spelled a) (is_spelled i) (both (is_element x && is_u32 n) (is_spelled a) p.0 (spelled-parts a q.0)) (spelled-parts i q.1)
+      and_from (is_element x && is_u32 n && is_spelled a) (is_spelled i) (and_from (is_element x && is_u32 n) (is_spelled a) p.0 (spelled-parts a q.0)) (spelled-parts i q.1)
   spelled-parts (arr x n all) h =
       let p = and_parts (is_element x && is_u32 n) (list_all is_spelled_part (parts_of_all all)) h in
-      both (is_element x && is_u32 n) (are_spelled all) p.0 (spelled-all all p.1)
+      and_from (is_element x && is_u32 n) (are_spelled all) p.0 (spelled-all all p.1)
   spelled-parts (rec x all) h =
       let p = and_parts (is_name x) (list_all is_spelled_part (parts_of_all all)) h in
-      both (is_name x) (are_spelled all) p.0 (spelled-all all p.1)
+      and_from (is_name x) (are_spelled all) p.0 (spelled-all all p.1)
 
   spelled-all : (es : Exprs) → list_all is_spelled_part (parts_of_all es) ≡ true → are_spelled es ≡ true
   spelled-all none h = refl
   spelled-all (more e es) h =
       let p = and_parts (each e) (list_all is_spelled_part (parts_of_all es)) (sym (list_all-append is_spelled_part (parts_of e) (parts_of_all es)) ∙ h) in
-      both (is_spelled e) (are_spelled es) (spelled-parts e p.0) (spelled-all es p.1)
+      and_from (is_spelled e) (are_spelled es) (spelled-parts e p.0) (spelled-all es p.1)
 
 -- ---- statements
 
-all-flat_map : {X Y : Type 0} (p : Y → Bool) (f : X → List Y) (xs : List X) → list_all p (flat_map f xs) ≡ list_all (λ x. list_all p (f x)) xs
-all-flat_map p f [] = refl
-all-flat_map p f (x ∷ xs) = list_all-append p (f x) (flat_map f xs) ∙ ap (λ (b : Bool). list_all p (f x) && b) (all-flat_map p f xs)
-
 here : (e : Expr) → each e ≡ true → nat_le (height e) most_height ≡ true → is_spelled_here e ≡ true
-here e h g = both (is_spelled e) (nat_le (height e) most_height) (spelled-parts e h) g
+here e h g = and_from (is_spelled e) (nat_le (height e) most_height) (spelled-parts e h) g
 
 all_here : (es : Exprs) → list_all is_spelled_here (list_of es) ≡ true → are_spelled_here es ≡ true
 all_here none h = refl
 all_here (more e es) h =
     let p = and_parts (is_spelled_here e) (list_all is_spelled_here (list_of es)) h in
-    both (is_spelled_here e) (are_spelled_here es) p.0 (all_here es p.1)
+    and_from (is_spelled_here e) (are_spelled_here es) p.0 (all_here es p.1)
 
 of_here : (u : CUnit) (s : Stmt) → has_names_statement s ≡ true → is_statement_there u s ≡ true → list_all is_spelled_here (expressions_in s) ≡ true → is_spelled_statement u s ≡ true
 of_here u (copies x) h g k = h
 of_here u (calls f guard args) h g k =
     let p = and_parts (is_spelled_here guard) (list_all is_spelled_here (list_of args)) k in
-    both (is_name f && is_spelled_here guard) (are_spelled_here args) (both (is_name f) (is_spelled_here guard) h p.0) (all_here args p.1)
-of_here u (nexts r e) h g k = both (is_ring_name r && is_some (ring_of u r)) (is_spelled_here e) (both (is_ring_name r) (is_some (ring_of u r)) h g) (and_parts (is_spelled_here e) true k).0
-of_here u (stores r e) h g k = both (is_ring_name r) (is_spelled_here e) h (and_parts (is_spelled_here e) true k).0
-of_here u (moves r e) h g k = both (is_ring_name r) (is_spelled_here e) h (and_parts (is_spelled_here e) true k).0
+    and_from (is_name f && is_spelled_here guard) (are_spelled_here args) (and_from (is_name f) (is_spelled_here guard) h p.0) (all_here args p.1)
+of_here u (nexts r e) h g k = and_from (is_ring_name r && is_some (ring_of u r)) (is_spelled_here e) (and_from (is_ring_name r) (is_some (ring_of u r)) h g) (and_parts (is_spelled_here e) true k).0
+of_here u (stores r e) h g k = and_from (is_ring_name r) (is_spelled_here e) h (and_parts (is_spelled_here e) true k).0
+of_here u (moves r e) h g k = and_from (is_ring_name r) (is_spelled_here e) h (and_parts (is_spelled_here e) true k).0
 of_here u (puts r) h g k = h
 
 record StatementRules (u : CUnit) (s : Stmt) : Type 0 where
@@ -268,7 +261,7 @@ statements-spelled u short (s ∷ ss) a b c d e f =
     let dp = and_parts (list_all has_names_part (parts_in s)) (list_all (λ y. list_all has_names_part (parts_in y)) ss) d in
     let ep = and_parts (list_all is_in_range (parts_in s)) (list_all (λ y. list_all is_in_range (parts_in y)) ss) e in
     let fp = and_parts (list_all (is_there u) (parts_in s)) (list_all (λ y. list_all (is_there u) (parts_in y)) ss) f in
-    both (is_spelled_statement u s) (list_all (is_spelled_statement u) ss)
+    and_from (is_spelled_statement u s) (list_all (is_spelled_statement u) ss)
     (statement-spelled u short s (record { named = ap'.0; there = bp.0; low = cp.0; part_names = dp.0; ranged = ep.0; parts_there = fp.0 }))
     (statements-spelled u short ss ap'.1 bp.1 cp.1 dp.1 ep.1 fp.1)
 
@@ -318,7 +311,7 @@ totals : (u : CUnit) → totals_are_right u ≡ true → (is_u32 u.storage && is
 totals u h =
     let a = and_parts (nat_eq u.storage (storage_of u) && nat_eq u.need (unit_weight_of u) && nat_le u.storage 2147483647) (nat_le u.need 2147483647) h in
     let b = and_parts (nat_eq u.storage (storage_of u) && nat_eq u.need (unit_weight_of u)) (nat_le u.storage 2147483647) a.0 in
-    both (is_u32 u.storage) (is_u32 u.need) (small u.storage 2147483647 b.1 refl) (small u.need 2147483647 a.1 refl)
+    and_from (is_u32 u.storage) (is_u32 u.need) (small u.storage 2147483647 b.1 refl) (small u.need 2147483647 a.1 refl)
 
 pub has_spelling : (u : CUnit) → IsWellFormed u → HasSpelling u
 has_spelling u w =

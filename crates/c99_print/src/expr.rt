@@ -1,172 +1,157 @@
 // Expressions as they are written.
-ghost use Rattle.std.specs.Prelude.{◌≡◌, ◌++◌, [], map, codes, decimal};
-ghost use Rattle.c99_ast.specs.Tree.{tree, exprs, ring_at, un, cast, field, arr, rec};
-ghost use Rattle.c99_ast.specs.Spelling.{text, parted, suffix, operator};
-ghost use Rattle.c99_print.specs.Goes.{Goes};
+ghost use Rattle.std.specs.Prelude.{◌++◌, [], map, codes, decimal};
+ghost use Rattle.c99_tree.specs.Tree.{tree, exprs, ring_at, un, cast, field, arr, rec};
+ghost use Rattle.c99_tree.specs.Spelling.{text, parted, suffix, operator};
+ghost use Rattle.sm_print.specs.Prints.{Prints};
 
-use crate::printer::Printer;
-use crate::words::{operator_of, scalar_of, sign_of, suffix_of};
-use c99_ast::{CBin, CExpr, CLit, CScalar, CUn};
+use crate::types::{array_name, pick_name};
+use c99_tree::{CBin, CExpr, CLit, CScalar, CUn, operator, scalar_name, sign, suffix};
 use sm_io::{Name, Sink};
+use sm_print::Printer;
 
-impl<K: Sink> Printer<'_, K> {
-    fn literal(&mut self, kind: CLit, n: u64)
-        ensures bytes { Goes self.old.failed (K.taken self.old.sink.now) (K.faults self.old.sink.now) (decimal n ++ suffix kind) self.new.failed (K.taken self.new.sink.now) (K.faults self.new.sink.now) }
-        ensures same { self.new.sink.ghost_name ≡ self.old.sink.ghost_name }
-    {
-        self.number(n);
-        self.put(suffix_of(kind));
-    }
+fn literal<K: Sink>(out: &mut Printer<'_, K>, kind: CLit, n: u64)
+    ensures { Prints K.taken K.faults out.old (decimal n ++ suffix kind) out.new }
+{
+    out.number(n);
+    out.put(suffix(kind));
+}
 
-    // A name behind the letters of its kind.
-    fn named(&mut self, kind: &[u8], name: &Name)
-        ensures bytes { Goes self.old.failed (K.taken self.old.sink.now) (K.faults self.old.sink.now) (kind.now ++ name.now) self.new.failed (K.taken self.new.sink.now) (K.faults self.new.sink.now) }
-        ensures same { self.new.sink.ghost_name ≡ self.old.sink.ghost_name }
-    {
-        self.put(kind);
-        self.put(name.bytes());
-    }
+// A name behind the letters of its kind.
+fn named<K: Sink>(out: &mut Printer<'_, K>, kind: &[u8], name: &Name)
+    ensures { Prints K.taken K.faults out.old (kind.now ++ name.now) out.new }
+{
+    out.put(kind);
+    out.put(name.bytes());
+}
 
-    fn operator(&mut self, op: CBin)
-        ensures bytes { Goes self.old.failed (K.taken self.old.sink.now) (K.faults self.old.sink.now) (codes " " ++ operator op ++ codes " ") self.new.failed (K.taken self.new.sink.now) (K.faults self.new.sink.now) }
-        ensures same { self.new.sink.ghost_name ≡ self.old.sink.ghost_name }
-    {
-        self.put(b" ");
-        self.put(operator_of(op));
-        self.put(b" ");
-    }
+fn spaced_operator<K: Sink>(out: &mut Printer<'_, K>, op: CBin)
+    ensures { Prints K.taken K.faults out.old (codes " " ++ operator op ++ codes " ") out.new }
+{
+    out.put(b" ");
+    out.put(operator(op));
+    out.put(b" ");
+}
 
-    // One row for each form.
-    #[cycle(printing)]
-    pub fn expr(&mut self, e: &CExpr)
-        ensures bytes { Goes self.old.failed (K.taken self.old.sink.now) (K.faults self.old.sink.now) (text (tree e.now)) self.new.failed (K.taken self.new.sink.now) (K.faults self.new.sink.now) }
-        ensures same { self.new.sink.ghost_name ≡ self.old.sink.ghost_name }
-    {
-        match e {
-            CExpr::Lit(kind, n) => self.literal(*kind, *n),
-            CExpr::True => self.put(b"true"),
-            CExpr::False => self.put(b"false"),
-            CExpr::Copy(x) => self.named(b"cp_c_", x),
-            CExpr::Head(r) => self.named(b"cp_i_", r),
-            CExpr::Cell(r) => self.named(b"cp_b_", r),
-            CExpr::RingAt(r, a) => self.ring_element(r, a.get()),
-            CExpr::Un(op, a) => self.unary(*op, a.get()),
-            CExpr::Bin(op, a, b) => {
-                self.behind(b"(", a.get());
-                self.operator(*op);
-                self.expr(b.get());
-                self.put(b")");
-            }
-            CExpr::Cond(c, a, b) => {
-                self.behind(b"(", c.get());
-                self.behind(b" ? ", a.get());
-                self.behind(b" : ", b.get());
-                self.put(b")");
-            }
-            CExpr::Cast(ty, a) => self.cast(*ty, a.get()),
-            CExpr::Field(a, x) => self.member(a.get(), x),
-            CExpr::Pick(x, n, a, i) => {
-                self.pick_name(x, *n);
-                self.behind(b"(", a.get());
-                self.behind(b", ", i.get());
-                self.put(b")");
-            }
-            CExpr::Arr(x, n, all) => self.array_literal(x, *n, all.as_slice()),
-            CExpr::Rec(x, all) => self.struct_literal(x, all.as_slice()),
+// One row for each form.
+#[cycle(printing)]
+pub fn expr<K: Sink>(out: &mut Printer<'_, K>, e: &CExpr)
+    ensures { Prints K.taken K.faults out.old (text (tree e.now)) out.new }
+{
+    match e {
+        CExpr::Lit(kind, n) => literal(out, *kind, *n),
+        CExpr::True => out.put(b"true"),
+        CExpr::False => out.put(b"false"),
+        CExpr::Copy(x) => named(out, b"cp_c_", x),
+        CExpr::Head(r) => named(out, b"cp_i_", r),
+        CExpr::Cell(r) => named(out, b"cp_b_", r),
+        CExpr::RingAt(r, a) => ring_element(out, r, a.get()),
+        CExpr::Un(op, a) => unary(out, *op, a.get()),
+        CExpr::Bin(op, a, b) => {
+            behind(out, b"(", a.get());
+            spaced_operator(out, *op);
+            expr(out, b.get());
+            out.put(b")");
         }
-    }
-
-    // An expression behind some bytes.
-    #[cycle(printing)]
-    fn behind(&mut self, before: &[u8], e: &CExpr)
-        ensures bytes { Goes self.old.failed (K.taken self.old.sink.now) (K.faults self.old.sink.now) (before.now ++ text (tree e.now)) self.new.failed (K.taken self.new.sink.now) (K.faults self.new.sink.now) }
-        ensures same { self.new.sink.ghost_name ≡ self.old.sink.ghost_name }
-    {
-        self.put(before);
-        self.expr(e);
-    }
-
-    #[cycle(printing)]
-    fn ring_element(&mut self, r: &Name, a: &CExpr)
-        ensures bytes { Goes self.old.failed (K.taken self.old.sink.now) (K.faults self.old.sink.now) (text (ring_at r.now (tree a.now))) self.new.failed (K.taken self.new.sink.now) (K.faults self.new.sink.now) }
-        ensures same { self.new.sink.ghost_name ≡ self.old.sink.ghost_name }
-    {
-        self.named(b"cp_b_", r);
-        self.put(b"[");
-        self.expr(a);
-        self.put(b"]");
-    }
-
-    #[cycle(printing)]
-    fn unary(&mut self, op: CUn, a: &CExpr)
-        ensures bytes { Goes self.old.failed (K.taken self.old.sink.now) (K.faults self.old.sink.now) (text (un op (tree a.now))) self.new.failed (K.taken self.new.sink.now) (K.faults self.new.sink.now) }
-        ensures same { self.new.sink.ghost_name ≡ self.old.sink.ghost_name }
-    {
-        self.put(b"(");
-        self.put(sign_of(op));
-        self.expr(a);
-        self.put(b")");
-    }
-
-    #[cycle(printing)]
-    fn cast(&mut self, ty: CScalar, a: &CExpr)
-        ensures bytes { Goes self.old.failed (K.taken self.old.sink.now) (K.faults self.old.sink.now) (text (cast ty (tree a.now))) self.new.failed (K.taken self.new.sink.now) (K.faults self.new.sink.now) }
-        ensures same { self.new.sink.ghost_name ≡ self.old.sink.ghost_name }
-    {
-        self.put(b"((");
-        self.put(scalar_of(ty));
-        self.put(b")");
-        self.expr(a);
-        self.put(b")");
-    }
-
-    #[cycle(printing)]
-    fn member(&mut self, a: &CExpr, x: &Name)
-        ensures bytes { Goes self.old.failed (K.taken self.old.sink.now) (K.faults self.old.sink.now) (text (field (tree a.now) x.now)) self.new.failed (K.taken self.new.sink.now) (K.faults self.new.sink.now) }
-        ensures same { self.new.sink.ghost_name ≡ self.old.sink.ghost_name }
-    {
-        self.put(b"(");
-        self.expr(a);
-        self.put(b".");
-        self.put(x.bytes());
-        self.put(b")");
-    }
-
-    #[cycle(printing)]
-    fn array_literal(&mut self, x: &Name, n: u32, all: &[CExpr])
-        ensures bytes { Goes self.old.failed (K.taken self.old.sink.now) (K.faults self.old.sink.now) (text (arr x.now n (exprs (map tree all.now)))) self.new.failed (K.taken self.new.sink.now) (K.faults self.new.sink.now) }
-        ensures same { self.new.sink.ghost_name ≡ self.old.sink.ghost_name }
-    {
-        self.put(b"((");
-        self.array_name(x, n);
-        self.put(b"){ { ");
-        self.listed(all);
-        self.put(b" } })");
-    }
-
-    #[cycle(printing)]
-    fn struct_literal(&mut self, x: &Name, all: &[CExpr])
-        ensures bytes { Goes self.old.failed (K.taken self.old.sink.now) (K.faults self.old.sink.now) (text (rec x.now (exprs (map tree all.now)))) self.new.failed (K.taken self.new.sink.now) (K.faults self.new.sink.now) }
-        ensures same { self.new.sink.ghost_name ≡ self.old.sink.ghost_name }
-    {
-        self.named(b"((struct ", x);
-        self.put(b"){ ");
-        self.listed(all);
-        self.put(b" })");
-    }
-
-    // Some expressions with commas between them.
-    #[cycle(printing)]
-    #[tactic(auto, using(c99_ast::specs::TreeLaws::tree_laws))]
-    pub fn listed(&mut self, all: &[CExpr])
-        ensures bytes { Goes self.old.failed (K.taken self.old.sink.now) (K.faults self.old.sink.now) (parted [] (exprs (map tree all.now))) self.new.failed (K.taken self.new.sink.now) (K.faults self.new.sink.now) }
-        ensures same { self.new.sink.ghost_name ≡ self.old.sink.ghost_name }
-    {
-        let mut before: &[u8] = b"";
-        for e in all {
-            self.put(before);
-            self.expr(e);
-            before = b", ";
+        CExpr::Cond(c, a, b) => {
+            behind(out, b"(", c.get());
+            behind(out, b" ? ", a.get());
+            behind(out, b" : ", b.get());
+            out.put(b")");
         }
+        CExpr::Cast(ty, a) => cast(out, *ty, a.get()),
+        CExpr::Field(a, x) => member(out, a.get(), x),
+        CExpr::Pick(x, n, a, i) => {
+            pick_name(out, x, *n);
+            behind(out, b"(", a.get());
+            behind(out, b", ", i.get());
+            out.put(b")");
+        }
+        CExpr::Arr(x, n, all) => array_literal(out, x, *n, all.as_slice()),
+        CExpr::Rec(x, all) => struct_literal(out, x, all.as_slice()),
+    }
+}
+
+// An expression behind some bytes.
+#[cycle(printing)]
+fn behind<K: Sink>(out: &mut Printer<'_, K>, before: &[u8], e: &CExpr)
+    ensures { Prints K.taken K.faults out.old (before.now ++ text (tree e.now)) out.new }
+{
+    out.put(before);
+    expr(out, e);
+}
+
+#[cycle(printing)]
+fn ring_element<K: Sink>(out: &mut Printer<'_, K>, r: &Name, a: &CExpr)
+    ensures { Prints K.taken K.faults out.old (text (ring_at r.now (tree a.now))) out.new }
+{
+    named(out, b"cp_b_", r);
+    out.put(b"[");
+    expr(out, a);
+    out.put(b"]");
+}
+
+#[cycle(printing)]
+fn unary<K: Sink>(out: &mut Printer<'_, K>, op: CUn, a: &CExpr)
+    ensures { Prints K.taken K.faults out.old (text (un op (tree a.now))) out.new }
+{
+    out.put(b"(");
+    out.put(sign(op));
+    expr(out, a);
+    out.put(b")");
+}
+
+#[cycle(printing)]
+fn cast<K: Sink>(out: &mut Printer<'_, K>, ty: CScalar, a: &CExpr)
+    ensures { Prints K.taken K.faults out.old (text (cast ty (tree a.now))) out.new }
+{
+    out.put(b"((");
+    out.put(scalar_name(ty));
+    out.put(b")");
+    expr(out, a);
+    out.put(b")");
+}
+
+#[cycle(printing)]
+fn member<K: Sink>(out: &mut Printer<'_, K>, a: &CExpr, x: &Name)
+    ensures { Prints K.taken K.faults out.old (text (field (tree a.now) x.now)) out.new }
+{
+    out.put(b"(");
+    expr(out, a);
+    out.put(b".");
+    out.put(x.bytes());
+    out.put(b")");
+}
+
+#[cycle(printing)]
+fn array_literal<K: Sink>(out: &mut Printer<'_, K>, x: &Name, n: u32, all: &[CExpr])
+    ensures { Prints K.taken K.faults out.old (text (arr x.now n (exprs (map tree all.now)))) out.new }
+{
+    out.put(b"((");
+    array_name(out, x, n);
+    out.put(b"){ { ");
+    listed(out, all);
+    out.put(b" } })");
+}
+
+#[cycle(printing)]
+fn struct_literal<K: Sink>(out: &mut Printer<'_, K>, x: &Name, all: &[CExpr])
+    ensures { Prints K.taken K.faults out.old (text (rec x.now (exprs (map tree all.now)))) out.new }
+{
+    named(out, b"((struct ", x);
+    out.put(b"){ ");
+    listed(out, all);
+    out.put(b" })");
+}
+
+// Some expressions with commas between them.
+#[cycle(printing)]
+pub fn listed<K: Sink>(out: &mut Printer<'_, K>, all: &[CExpr])
+    ensures { Prints K.taken K.faults out.old (parted [] (exprs (map tree all.now))) out.new }
+{
+    let mut before: &[u8] = b"";
+    for e in all {
+        out.put(before);
+        expr(out, e);
+        before = b", ";
     }
 }

@@ -1,180 +1,166 @@
 // The header.
-ghost use Rattle.std.specs.Prelude.{◌≡◌, ◌++◌, map, codes, decimal, is_ok};
+ghost use Rattle.std.specs.Prelude.{◌++◌, map, codes, decimal, is_ok};
 ghost use Rattle.std.specs.List.{flat_map};
 ghost use Rattle.sm_io.specs.Written.{WritesText};
-ghost use Rattle.c99_ast.specs.Spelling as spelling;
-ghost use Rattle.c99_ast.specs.WellFormed.{IsWellFormed};
-ghost use Rattle.c99_ast.specs.declared.types.CDef.TheVariants as def;
-ghost use Rattle.c99_print.specs.Goes.{Goes};
+ghost use Rattle.c99_tree.specs.Spelling as spelling;
+ghost use Rattle.c99_tree.specs.WellFormed.{IsWellFormed};
+ghost use Rattle.c99_tree.specs.declared.types.CDef.TheVariants as def;
+ghost use Rattle.sm_print.specs.Prints.{Prints};
 
-use crate::printer::Printer;
-use c99_ast::{CDef, CProto, CTy, CVar, Unit};
+use crate::types::{array_name, element_name, type_name};
+use c99_tree::{CDef, CProto, CTy, CVar, Unit};
 use sm_io::{Failed, Name, Sink};
+use sm_print::Printer;
 
-impl<K: Sink> Printer<'_, K> {
-    fn field(&mut self, x: &CVar)
-        ensures bytes { Goes self.old.failed (K.taken self.old.sink.now) (K.faults self.old.sink.now) (spelling.field_text x.now) self.new.failed (K.taken self.new.sink.now) (K.faults self.new.sink.now) }
-        ensures same { self.new.sink.ghost_name ≡ self.old.sink.ghost_name }
-    {
-        self.put(b" ");
-        self.type_name(&x.ty);
-        self.put(b" ");
-        self.put(x.name.bytes());
-        self.put(b";");
-    }
+fn field<K: Sink>(out: &mut Printer<'_, K>, x: &CVar)
+    ensures { Prints K.taken K.faults out.old (spelling.field_text x.now) out.new }
+{
+    out.put(b" ");
+    type_name(out, &x.ty);
+    out.put(b" ");
+    out.put(x.name.bytes());
+    out.put(b";");
+}
 
-    fn fields(&mut self, fields: &[CVar])
-        ensures bytes { Goes self.old.failed (K.taken self.old.sink.now) (K.faults self.old.sink.now) (flat_map spelling.field_text fields.now) self.new.failed (K.taken self.new.sink.now) (K.faults self.new.sink.now) }
-        ensures same { self.new.sink.ghost_name ≡ self.old.sink.ghost_name }
-    {
-        for x in fields {
-            self.field(x);
-        }
+fn struct_fields<K: Sink>(out: &mut Printer<'_, K>, fields: &[CVar])
+    ensures { Prints K.taken K.faults out.old (flat_map spelling.field_text fields.now) out.new }
+{
+    for x in fields {
+        field(out, x);
     }
+}
 
-    fn struct_line(&mut self, x: &Name, fields: &[CVar])
-        ensures bytes { Goes self.old.failed (K.taken self.old.sink.now) (K.faults self.old.sink.now) (spelling.type_line (def.Struct x.now fields.now)) self.new.failed (K.taken self.new.sink.now) (K.faults self.new.sink.now) }
-        ensures same { self.new.sink.ghost_name ≡ self.old.sink.ghost_name }
-    {
-        self.put(b"struct ");
-        self.put(x.bytes());
-        self.put(b" {");
-        self.fields(fields);
-        self.put(b" };\n");
-    }
+fn struct_line<K: Sink>(out: &mut Printer<'_, K>, x: &Name, fields: &[CVar])
+    ensures { Prints K.taken K.faults out.old (spelling.type_line (def.Struct x.now fields.now)) out.new }
+{
+    out.put(b"struct ");
+    out.put(x.bytes());
+    out.put(b" {");
+    struct_fields(out, fields);
+    out.put(b" };\n");
+}
 
-    fn array_line(&mut self, x: &Name, n: u32)
-        ensures bytes { Goes self.old.failed (K.taken self.old.sink.now) (K.faults self.old.sink.now) (spelling.type_line (def.Array x.now n)) self.new.failed (K.taken self.new.sink.now) (K.faults self.new.sink.now) }
-        ensures same { self.new.sink.ghost_name ≡ self.old.sink.ghost_name }
-    {
-        self.array_name(x, n);
-        self.put(b" { ");
-        self.element_name(x);
-        self.put(b" e[");
-        self.number(u64::from(n));
-        self.put(b"]; };\n");
-    }
+fn array_line<K: Sink>(out: &mut Printer<'_, K>, x: &Name, n: u32)
+    ensures { Prints K.taken K.faults out.old (spelling.type_line (def.Array x.now n)) out.new }
+{
+    array_name(out, x, n);
+    out.put(b" { ");
+    element_name(out, x);
+    out.put(b" e[");
+    out.number(u64::from(n));
+    out.put(b"]; };\n");
+}
 
-    fn type_line(&mut self, def: &CDef)
-        ensures bytes { Goes self.old.failed (K.taken self.old.sink.now) (K.faults self.old.sink.now) (spelling.type_line def.now) self.new.failed (K.taken self.new.sink.now) (K.faults self.new.sink.now) }
-        ensures same { self.new.sink.ghost_name ≡ self.old.sink.ghost_name }
-    {
-        match def {
-            CDef::Struct { name, fields } => self.struct_line(name, fields.as_slice()),
-            CDef::Array { elem, n } => self.array_line(elem, *n),
-        }
+fn type_line<K: Sink>(out: &mut Printer<'_, K>, def: &CDef)
+    ensures { Prints K.taken K.faults out.old (spelling.type_line def.now) out.new }
+{
+    match def {
+        CDef::Struct { name, fields } => struct_line(out, name, fields.as_slice()),
+        CDef::Array { elem, n } => array_line(out, elem, *n),
     }
+}
 
-    fn type_lines(&mut self, types: &[CDef])
-        ensures bytes { Goes self.old.failed (K.taken self.old.sink.now) (K.faults self.old.sink.now) (flat_map spelling.type_line types.now) self.new.failed (K.taken self.new.sink.now) (K.faults self.new.sink.now) }
-        ensures same { self.new.sink.ghost_name ≡ self.old.sink.ghost_name }
-    {
-        for def in types {
-            self.type_line(def);
-        }
+fn type_lines<K: Sink>(out: &mut Printer<'_, K>, types: &[CDef])
+    ensures { Prints K.taken K.faults out.old (flat_map spelling.type_line types.now) out.new }
+{
+    for def in types {
+        type_line(out, def);
     }
+}
 
-    fn extern_line(&mut self, x: &CVar)
-        ensures bytes { Goes self.old.failed (K.taken self.old.sink.now) (K.faults self.old.sink.now) (spelling.extern_line x.now) self.new.failed (K.taken self.new.sink.now) (K.faults self.new.sink.now) }
-        ensures same { self.new.sink.ghost_name ≡ self.old.sink.ghost_name }
-    {
-        self.put(b"extern ");
-        self.type_name(&x.ty);
-        self.put(b" ");
-        self.put(x.name.bytes());
-        self.put(b";\n");
-    }
+fn extern_line<K: Sink>(out: &mut Printer<'_, K>, x: &CVar)
+    ensures { Prints K.taken K.faults out.old (spelling.extern_line x.now) out.new }
+{
+    out.put(b"extern ");
+    type_name(out, &x.ty);
+    out.put(b" ");
+    out.put(x.name.bytes());
+    out.put(b";\n");
+}
 
-    fn extern_lines(&mut self, externs: &[CVar])
-        ensures bytes { Goes self.old.failed (K.taken self.old.sink.now) (K.faults self.old.sink.now) (flat_map spelling.extern_line externs.now) self.new.failed (K.taken self.new.sink.now) (K.faults self.new.sink.now) }
-        ensures same { self.new.sink.ghost_name ≡ self.old.sink.ghost_name }
-    {
-        for x in externs {
-            self.extern_line(x);
-        }
+fn extern_lines<K: Sink>(out: &mut Printer<'_, K>, externs: &[CVar])
+    ensures { Prints K.taken K.faults out.old (flat_map spelling.extern_line externs.now) out.new }
+{
+    for x in externs {
+        extern_line(out, x);
     }
+}
 
-    fn type_names(&mut self, types: &[CTy])
-        ensures bytes { Goes self.old.failed (K.taken self.old.sink.now) (K.faults self.old.sink.now) (spelling.with_commas (map spelling.type_text types.now)) self.new.failed (K.taken self.new.sink.now) (K.faults self.new.sink.now) }
-        ensures same { self.new.sink.ghost_name ≡ self.old.sink.ghost_name }
-    {
-        let mut before: &[u8] = b"";
-        for t in types {
-            self.put(before);
-            self.type_name(t);
-            before = b", ";
-        }
+fn type_names<K: Sink>(out: &mut Printer<'_, K>, types: &[CTy])
+    ensures { Prints K.taken K.faults out.old (spelling.with_commas (map spelling.type_text types.now)) out.new }
+{
+    let mut before: &[u8] = b"";
+    for t in types {
+        out.put(before);
+        type_name(out, t);
+        before = b", ";
     }
+}
 
-    fn params(&mut self, params: &[CTy])
-        ensures bytes { Goes self.old.failed (K.taken self.old.sink.now) (K.faults self.old.sink.now) (spelling.params_text params.now) self.new.failed (K.taken self.new.sink.now) (K.faults self.new.sink.now) }
-        ensures same { self.new.sink.ghost_name ≡ self.old.sink.ghost_name }
-    {
-        if params.is_empty() {
-            self.put(b"void");
-        } else {
-            self.type_names(params);
-        }
+fn params<K: Sink>(out: &mut Printer<'_, K>, params: &[CTy])
+    ensures { Prints K.taken K.faults out.old (spelling.params_text params.now) out.new }
+{
+    if params.is_empty() {
+        out.put(b"void");
+    } else {
+        type_names(out, params);
     }
+}
 
-    fn handler_line(&mut self, h: &CProto)
-        ensures bytes { Goes self.old.failed (K.taken self.old.sink.now) (K.faults self.old.sink.now) (spelling.handler_line h.now) self.new.failed (K.taken self.new.sink.now) (K.faults self.new.sink.now) }
-        ensures same { self.new.sink.ghost_name ≡ self.old.sink.ghost_name }
-    {
-        self.put(b"void ");
-        self.put(h.name.bytes());
-        self.put(b"(");
-        self.params(h.params.as_slice());
-        self.put(b");\n");
-    }
+fn handler_line<K: Sink>(out: &mut Printer<'_, K>, h: &CProto)
+    ensures { Prints K.taken K.faults out.old (spelling.handler_line h.now) out.new }
+{
+    out.put(b"void ");
+    out.put(h.name.bytes());
+    out.put(b"(");
+    params(out, h.params.as_slice());
+    out.put(b");\n");
+}
 
-    fn handler_lines(&mut self, handlers: &[CProto])
-        ensures bytes { Goes self.old.failed (K.taken self.old.sink.now) (K.faults self.old.sink.now) (flat_map spelling.handler_line handlers.now) self.new.failed (K.taken self.new.sink.now) (K.faults self.new.sink.now) }
-        ensures same { self.new.sink.ghost_name ≡ self.old.sink.ghost_name }
-    {
-        for h in handlers {
-            self.handler_line(h);
-        }
+fn handler_lines<K: Sink>(out: &mut Printer<'_, K>, handlers: &[CProto])
+    ensures { Prints K.taken K.faults out.old (flat_map spelling.handler_line handlers.now) out.new }
+{
+    for h in handlers {
+        handler_line(out, h);
     }
+}
 
-    // The line of the guard against a second inclusion.
-    fn guard_line(&mut self, word: &[u8], name: &Name)
-        ensures bytes { Goes self.old.failed (K.taken self.old.sink.now) (K.faults self.old.sink.now) (spelling.line (word.now ++ codes " CP_" ++ name.now ++ codes "_H")) self.new.failed (K.taken self.new.sink.now) (K.faults self.new.sink.now) }
-        ensures same { self.new.sink.ghost_name ≡ self.old.sink.ghost_name }
-    {
-        self.put(word);
-        self.put(b" CP_");
-        self.put(name.bytes());
-        self.put(b"_H\n");
-    }
+// The line of the guard against a second inclusion.
+fn guard_line<K: Sink>(out: &mut Printer<'_, K>, word: &[u8], name: &Name)
+    ensures { Prints K.taken K.faults out.old (spelling.line (word.now ++ codes " CP_" ++ name.now ++ codes "_H")) out.new }
+{
+    out.put(word);
+    out.put(b" CP_");
+    out.put(name.bytes());
+    out.put(b"_H\n");
+}
 
-    // The line of the storage and of the need.
-    fn totals_line(&mut self, unit: &Unit)
-        ensures bytes { Goes self.old.failed (K.taken self.old.sink.now) (K.faults self.old.sink.now) (spelling.line (codes "enum { cp_storage = " ++ decimal unit.now.storage ++ codes ", cp_need = " ++ decimal unit.now.need ++ codes " };")) self.new.failed (K.taken self.new.sink.now) (K.faults self.new.sink.now) }
-        ensures same { self.new.sink.ghost_name ≡ self.old.sink.ghost_name }
-    {
-        self.put(b"enum { cp_storage = ");
-        self.number(u64::from(unit.storage));
-        self.put(b", cp_need = ");
-        self.number(u64::from(unit.need));
-        self.put(b" };\n");
-    }
+// The line of the storage and of the need.
+fn totals_line<K: Sink>(out: &mut Printer<'_, K>, unit: &Unit)
+    ensures { let front = codes "enum { cp_storage = " ++ decimal unit.now.storage in
+        let text = spelling.line (front ++ codes ", cp_need = " ++ decimal unit.now.need ++ codes " };") in
+        Prints K.taken K.faults out.old text out.new }
+{
+    out.put(b"enum { cp_storage = ");
+    out.number(u64::from(unit.storage));
+    out.put(b", cp_need = ");
+    out.number(u64::from(unit.need));
+    out.put(b" };\n");
+}
 
-    fn header(&mut self, unit: &Unit)
-        ensures bytes { Goes self.old.failed (K.taken self.old.sink.now) (K.faults self.old.sink.now) (spelling.header_text unit.now) self.new.failed (K.taken self.new.sink.now) (K.faults self.new.sink.now) }
-        ensures same { self.new.sink.ghost_name ≡ self.old.sink.ghost_name }
-    {
-        self.guard_line(b"#ifndef", &unit.name);
-        self.guard_line(b"#define", &unit.name);
-        self.put(b"#include <stdint.h>\n");
-        self.put(b"#include <stdbool.h>\n");
-        self.totals_line(unit);
-        self.type_lines(unit.types.as_slice());
-        self.extern_lines(unit.externs.as_slice());
-        self.handler_lines(unit.handlers.as_slice());
-        self.put(b"void step(void);\n");
-        self.put(b"#endif\n");
-    }
+fn header_lines<K: Sink>(out: &mut Printer<'_, K>, unit: &Unit)
+    ensures { Prints K.taken K.faults out.old (spelling.header_text unit.now) out.new }
+{
+    guard_line(out, b"#ifndef", &unit.name);
+    guard_line(out, b"#define", &unit.name);
+    out.put(b"#include <stdint.h>\n");
+    out.put(b"#include <stdbool.h>\n");
+    totals_line(out, unit);
+    type_lines(out, unit.types.as_slice());
+    extern_lines(out, unit.externs.as_slice());
+    handler_lines(out, unit.handlers.as_slice());
+    out.put(b"void step(void);\n");
+    out.put(b"#endif\n");
 }
 
 /// Writes the header of a well formed unit, NAME.h: the guard against a second inclusion, the two includes, the numbers
@@ -184,10 +170,7 @@ pub fn print_header<K: Sink>(unit: &Unit, sink: &mut K) -> Result<(), Failed>
     requires well_formed { IsWellFormed unit.now }
     ensures text { WritesText (K.taken sink.old) (K.taken sink.new) (K.faults sink.old) (K.faults sink.new) (is_ok result) (spelling.header_text unit.now) }
 {
-    let mut printer = Printer {
-        sink,
-        failed: false,
-    };
-    printer.header(unit);
-    if printer.failed { Err(Failed) } else { Ok(()) }
+    let mut printer = Printer::new(sink);
+    header_lines(&mut printer, unit);
+    printer.outcome()
 }

@@ -2,9 +2,8 @@
 ghost use Rattle.sm_io.specs.Names.{IsNameBytes};
 
 use super::{print_header, print_source};
-use c99_ast::{
-    CBin, CDef, CExpr, CLit, CProto, CRing, CScalar, CStmt, CTy, CUn, CVar, Unit, well_formed,
-};
+use c99_ast::well_formed;
+use c99_tree::{CBin, CDef, CExpr, CLit, CProto, CRing, CScalar, CStmt, CTy, CUn, CVar, Unit};
 use sm_io::{MemSink, Name, Seq, VecSink};
 use sqlite_items::{Boxed, Items};
 use std::alloc::{AllocError, Global};

@@ -6,17 +6,17 @@ use Rattle.std.proofs.lemmas.Fmt.{decimal_nonempty}
 use Rattle.std.proofs.lemmas.Bool.{and_parts, and_left, ne_eqb, cond-true, leb-true, or_parts, or_cases, not-true, eqb-true, eqb-false}
 use Rattle.sm_io.specs.Names.{is_name_byte}
 use Rattle.sm_io.specs.Words.{is_name}
-use Rattle.c99_ast.specs.declared.expr.CLit.{CLit}
-use Rattle.c99_ast.specs.declared.expr.CLit.TheVariants as k
-use Rattle.c99_ast.specs.declared.expr.CUn.{CUn}
-use Rattle.c99_ast.specs.declared.expr.CUn.TheVariants as u
-use Rattle.c99_ast.specs.declared.expr.CBin.{CBin}
-use Rattle.c99_ast.specs.declared.expr.CBin.TheVariants as o
-use Rattle.c99_ast.specs.declared.types.CScalar.{CScalar}
-use Rattle.c99_ast.specs.declared.types.CScalar.TheVariants as t
-use Rattle.c99_ast.specs.Tree.{Expr, Exprs, lit, yes, no, copy, head, cell, ring_at, un, bin, choose, cast, field, pick, arr, rec, none, more}
-use Rattle.c99_ast.specs.Words.{is_same, is_digit, is_ring_name, is_element}
-use Rattle.c99_ast.specs.Spelling.{text, parted, operator, scalar_text, array_text, sign, suffix, most, height, highest, is_spelled, are_spelled, is_u32}
+use Rattle.c99_tree.specs.declared.expr.CLit.{CLit}
+use Rattle.c99_tree.specs.declared.expr.CLit.TheVariants as k
+use Rattle.c99_tree.specs.declared.expr.CUn.{CUn}
+use Rattle.c99_tree.specs.declared.expr.CUn.TheVariants as u
+use Rattle.c99_tree.specs.declared.expr.CBin.{CBin}
+use Rattle.c99_tree.specs.declared.expr.CBin.TheVariants as o
+use Rattle.c99_tree.specs.declared.types.CScalar.{CScalar}
+use Rattle.c99_tree.specs.declared.types.CScalar.TheVariants as t
+use Rattle.c99_tree.specs.Tree.{Expr, Exprs, lit, yes, no, copy, head, cell, ring_at, un, bin, choose, cast, field, pick, arr, rec, none, more}
+use Rattle.c99_tree.specs.Words.{is_same, is_digit, is_ring_name, is_element}
+use Rattle.c99_tree.specs.Spelling.{text, parted, operator, scalar_text, array_text, sign, suffix, most, height, highest, is_spelled, are_spelled, is_u32}
 use Rattle.c99_read.specs.Front.{◌>>=◌, behind, word, after_word, token, after_token}
 use Rattle.c99_read.specs.ExprAt.{level, expr_at, part_at, Sub, leaf, at_word, inside, tail, sign_of, at_type, at_struct, operator_of, suffix_of, literal_of, named_of, others_at, ends_list, list_at}
 use Rattle.c99_read.proofs.FrontFinds.{ends, all_word, word_front, after_word_front, all_word-append, name_word, ring_word, decimal_digits, decimal_word, ends_number, number_front, after_number_front, number_of-decimal, in_range, name_no_cp, name_finds, array_of-is}

@@ -10,21 +10,19 @@ use Rattle.std.proofs.lemmas.Slice.Eq.{bytes_eq-Decides}
 use Rattle.std.proofs.lemmas.Bool.{cases_eq, and_from, ne_eqb, cases_lt, and_parts, or_cases, not-true, true≢false, cases_Bool, eq-eqb, leb-true, le-leb}
 use Rattle.sm_io.specs.Names.{is_name_byte}
 use Rattle.sm_io.specs.Words.{is_name, is_word, is_among, has_front, has_end, reserved, limit_fronts, limit_ends}
-use Rattle.c99_ast.specs.declared.types.CScalar.{CScalar}
-use Rattle.c99_ast.specs.declared.types.CScalar.TheVariants as t
-use Rattle.c99_ast.specs.Words.{is_digit, is_same, is_index, is_ring_name, is_element, word_of, scalars}
+use Rattle.c99_tree.specs.declared.types.CScalar.{CScalar}
+use Rattle.c99_tree.specs.declared.types.CScalar.TheVariants as t
+use Rattle.c99_tree.specs.Words.{is_digit, is_same, is_index, is_ring_name, is_element, word_of, scalars}
 use Rattle.c99_read.specs.Front.{behind, word, after_word, number, after_number, is_number, number_of, number_at, name_at, ring_name_at, last_split, array_of, many, all_at}
+use Rattle.c99_tree.proofs.Shaped.{same-eq}
 
 -- ---- tests
 
 pub same_self : (w : List ℕ) → is_same w w ≡ true
 same_self w = (bytes_eq-Decides w w).1 refl
 
-pub same_is : (a b : List ℕ) → is_same a b ≡ true → a ≡ b
-same_is a b h = (bytes_eq-Decides a b).0 h
-
 pub not_same : (a b : List ℕ) → (a ≡ b → ⊥) → is_same a b ≡ false
-not_same a b h = elim (cases_Bool (is_same a b)) [ inl y ↦ absurd (h (same_is a b y)) | inr n ↦ n ]
+not_same a b h = elim (cases_Bool (is_same a b)) [ inl y ↦ absurd (h (same-eq a b y)) | inr n ↦ n ]
 
 -- ---- fixed bytes
 
@@ -91,7 +89,7 @@ ring_word r h = elim (or_cases (is_name r) (is_index r) h) [ inl a ↦ name_word
 
 any_word : (x : List ℕ) (all : List CScalar) → list_any (λ s. is_same (word_of s) x) all ≡ true → (s : CScalar) × (x ≡ word_of s)
 any_word x [] h = absurd (cc h)
-any_word x (s ∷ all) h = elim (or_cases (is_same (word_of s) x) _ h) [ inl a ↦ (s, sym (same_is (word_of s) x a)) | inr b ↦ any_word x all b ]
+any_word x (s ∷ all) h = elim (or_cases (is_same (word_of s) x) _ h) [ inl a ↦ (s, sym (same-eq (word_of s) x a)) | inr b ↦ any_word x all b ]
 
 scalar_word : (s : CScalar) → all_word (word_of s) ≡ true
 scalar_word t.Bool = refl

@@ -4,10 +4,10 @@ use Rattle.std.specs.Fmt.{decimal}
 use Rattle.std.specs.List.{flat_map}
 use Rattle.std.proofs.lemmas.Bool.{and_parts}
 use Rattle.sm_io.specs.Words.{is_name}
-use Rattle.c99_ast.specs.declared.types.CVar.{CVar}
-use Rattle.c99_ast.specs.declared.types.CProto.{CProto}
-use Rattle.c99_ast.specs.declared.unit.Unit.{Unit as CUnit}
-use Rattle.c99_ast.specs.Spelling.{type_line, extern_line, handler_line, header_text, HasSpelling, is_u32}
+use Rattle.c99_tree.specs.declared.types.CVar.{CVar}
+use Rattle.c99_tree.specs.declared.types.CProto.{CProto}
+use Rattle.c99_tree.specs.declared.unit.Unit.{Unit as CUnit}
+use Rattle.c99_tree.specs.Spelling.{type_line, extern_line, handler_line, header_text, HasSpelling, is_u32}
 use Rattle.c99_read.specs.Front.{behind, word, begins}
 use Rattle.c99_read.specs.LineAt.{is_handler}
 use Rattle.c99_read.specs.UnitAt.{Header, a_header, before_end, guard_name_at, top_at, totals_at, header_of}

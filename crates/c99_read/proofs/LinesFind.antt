@@ -4,15 +4,15 @@ use Rattle.std.specs.Fmt.{decimal}
 use Rattle.std.specs.List.{list_all, flat_map}
 use Rattle.std.proofs.lemmas.Bool.{and_parts}
 use Rattle.sm_io.specs.Words.{is_name}
-use Rattle.c99_ast.specs.declared.types.CScalar.TheVariants as t
-use Rattle.c99_ast.specs.declared.types.CTy.{CTy}
-use Rattle.c99_ast.specs.declared.types.CTy.TheVariants as ty
-use Rattle.c99_ast.specs.declared.types.CVar.{CVar}
-use Rattle.c99_ast.specs.declared.types.CDef.{CDef}
-use Rattle.c99_ast.specs.declared.types.CDef.TheVariants as def
-use Rattle.c99_ast.specs.declared.types.CProto.{CProto}
-use Rattle.c99_ast.specs.Words.{is_element, elem_type}
-use Rattle.c99_ast.specs.Spelling.{type_text, with_commas, params_text, field_text, type_line, extern_line, handler_line, is_spelled_type, is_spelled_var, is_spelled_def, is_spelled_handler, is_u32}
+use Rattle.c99_tree.specs.declared.types.CScalar.TheVariants as t
+use Rattle.c99_tree.specs.declared.types.CTy.{CTy}
+use Rattle.c99_tree.specs.declared.types.CTy.TheVariants as ty
+use Rattle.c99_tree.specs.declared.types.CVar.{CVar}
+use Rattle.c99_tree.specs.declared.types.CDef.{CDef}
+use Rattle.c99_tree.specs.declared.types.CDef.TheVariants as def
+use Rattle.c99_tree.specs.declared.types.CProto.{CProto}
+use Rattle.c99_tree.specs.Words.{is_element, elem_type}
+use Rattle.c99_tree.specs.Spelling.{type_text, with_commas, params_text, field_text, type_line, extern_line, handler_line, is_spelled_type, is_spelled_var, is_spelled_def, is_spelled_handler, is_u32}
 use Rattle.c99_read.specs.Front.{behind, begins}
 use Rattle.c99_read.specs.LineAt.{var_at, field_at, is_field, def_at, extern_at, param_at, params_at, handler_at, is_handler}
 use Rattle.c99_read.proofs.FrontFinds.{behind_front, ends, word_front, after_word_front, name_word, name_no_cp, not_step, name_finds, array_of-is, ReadsLines, all_find, anything}

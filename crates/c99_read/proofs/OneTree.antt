@@ -1,11 +1,11 @@
 -- Two expressions of one tree are one.
 use Rattle.std.proofs.Common.{◌≡◌, List, [], ◌∷◌, map, refl, sym, ap, subst, ◌∙◌}
-use Rattle.c99_ast.specs.declared.expr.CExpr.{CExpr, map-CExpr, roll-CExpr}
-use Rattle.c99_ast.specs.declared.expr.CExpr.TheVariants as e
-use Rattle.c99_ast.specs.declared.expr.CExpr.TheOpen.{CExpr-F}
-use Rattle.c99_ast.specs.declared.expr.CExpr.TheFolds.{ind-CExpr}
-use Rattle.c99_ast.specs.Tree.{Expr, Exprs, lit, yes, no, copy, head, cell, ring_at, un, bin, choose, cast, field, pick, arr, rec, none, more, exprs, tree}
-use Rattle.c99_ast.specs.TreeLaws.{tree-Lit, tree-True, tree-False, tree-Copy, tree-Head, tree-Cell, tree-RingAt, tree-Un, tree-Bin, tree-Cond, tree-Cast, tree-Field, tree-Pick, tree-Arr, tree-Rec}
+use Rattle.c99_tree.specs.declared.expr.CExpr.{CExpr, map-CExpr, roll-CExpr}
+use Rattle.c99_tree.specs.declared.expr.CExpr.TheVariants as e
+use Rattle.c99_tree.specs.declared.expr.CExpr.TheOpen.{CExpr-F}
+use Rattle.c99_tree.specs.declared.expr.CExpr.TheFolds.{ind-CExpr}
+use Rattle.c99_tree.specs.Tree.{Expr, Exprs, lit, yes, no, copy, head, cell, ring_at, un, bin, choose, cast, field, pick, arr, rec, none, more, exprs, tree}
+use Rattle.c99_tree.specs.TreeLaws.{tree-Lit, tree-True, tree-False, tree-Copy, tree-Head, tree-Cell, tree-RingAt, tree-Un, tree-Bin, tree-Cond, tree-Cast, tree-Field, tree-Pick, tree-Arr, tree-Rec}
 
 -- the expression of a tree
 abbrev mutual

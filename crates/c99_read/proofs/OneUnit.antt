@@ -1,21 +1,21 @@
 -- Two texts spell at most one program.
 use Rattle.std.proofs.Common.{◌≡◌, ℕ, false, List, [], ◌∷◌, ◌++◌, map, Some, refl, sym, ap, ◌∙◌, append_assoc, codes}
 use Rattle.std.specs.List.{flat_map}
-use Rattle.c99_ast.specs.declared.expr.CExpr.{CExpr}
-use Rattle.c99_ast.specs.declared.unit.CStmt.{CStmt}
-use Rattle.c99_ast.specs.declared.unit.CStmt.TheVariants as s
-use Rattle.c99_ast.specs.declared.unit.Unit.{Unit as CUnit}
-use Rattle.c99_ast.specs.Tree.{tree, exprs, Stmt, copies, calls, nexts, stores, moves, puts, statement, statements}
-use Rattle.c99_ast.specs.Lookup.{arrays_in}
-use Rattle.c99_ast.specs.Spelling.{pick_line, copy_line, ring_lines, statement_line, source_text, HasSpelling, Spells}
+use Rattle.c99_tree.specs.declared.expr.CExpr.{CExpr}
+use Rattle.c99_tree.specs.declared.unit.CStmt.{CStmt}
+use Rattle.c99_tree.specs.declared.unit.CStmt.TheVariants as s
+use Rattle.c99_tree.specs.declared.unit.Unit.{Unit as CUnit}
+use Rattle.c99_tree.specs.Tree.{tree, exprs, Stmt, copies, calls, nexts, stores, moves, puts, statement, statements}
+use Rattle.c99_tree.specs.Lookup.{arrays_in}
+use Rattle.c99_tree.specs.Spelling.{pick_line, copy_line, ring_lines, statement_line, source_text, HasSpelling, Spells}
 use Rattle.c99_read.specs.Front.{behind, begins}
 use Rattle.c99_read.specs.UnitAt.{Header, Source, header_of, known_at, source_of}
 use Rattle.c99_read.proofs.FrontFinds.{behind_front, all_find}
 use Rattle.c99_read.proofs.RingsFind.{rings}
 use Rattle.c99_read.proofs.StatementsFind.{statements_read}
 use Rattle.c99_read.proofs.HeaderFinds.{header_in, header_finds}
-use Rattle.c99_read.proofs.WordsFind.{same_some}
 use Rattle.c99_read.proofs.OneTree.{untree, untrees, back}
+use Rattle.std.proofs.lemmas.Option.{same_Some}
 
 -- ---- the source
 
@@ -99,7 +99,7 @@ unit_back u = ap (λ (all : List CStmt). record { name = u.name; types = u.types
 
 pub one_unit : (u v : CUnit) (header source : List ℕ) → Spells u header source → Spells v header source → u ≡ v
 one_unit u v header source p q =
-    let headers : header_in u ≡ header_in v = same_some (header_in u) (header_in v) (sym (header_finds u p.spelled) ∙ ap header_of (sym p.header_is ∙ q.header_is) ∙ header_finds v q.spelled) in
-    let sources : source_in u ≡ source_in v = same_some (source_in u) (source_in v)
+    let headers : header_in u ≡ header_in v = same_Some (header_in u) (header_in v) (sym (header_finds u p.spelled) ∙ ap header_of (sym p.header_is ∙ q.header_is) ∙ header_finds v q.spelled) in
+    let sources : source_in u ≡ source_in v = same_Some (source_in u) (source_in v)
     (sym (source_finds u p.spelled) ∙ ap (λ (h : Header). source_of h (source_text u)) headers ∙ ap (source_of (header_in v)) (sym p.source_is ∙ q.source_is) ∙ source_finds v q.spelled) in
     sym (unit_back u) ∙ ap (λ (h : Header). a_unit h (source_in u)) headers ∙ ap (a_unit (header_in v)) sources ∙ unit_back v

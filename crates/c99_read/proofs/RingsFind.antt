@@ -5,16 +5,17 @@ use Rattle.std.specs.Fmt.{decimal}
 use Rattle.std.specs.List.{list_all}
 use Rattle.std.specs.Option.{option_map_or, option_and_then}
 use Rattle.std.proofs.lemmas.Bool.{and_parts, eqb-true, leb-true, true≢false}
-use Rattle.c99_ast.specs.declared.types.CDef.{CDef}
-use Rattle.c99_ast.specs.declared.unit.CRing.{CRing}
-use Rattle.c99_ast.specs.Words.{is_ring_name}
-use Rattle.c99_ast.specs.Values.{Value, values, Shape, filled, repeated, whole, shape_of, first_values}
-use Rattle.c99_ast.specs.Spelling.{type_text, constant, constants, constant_height, highest_constant, with_commas, most_height, is_u32, is_spelled_type, is_spelled_ring, line, ring_lines, ring_lines_of}
+use Rattle.c99_tree.specs.declared.types.CDef.{CDef}
+use Rattle.c99_tree.specs.declared.unit.CRing.{CRing}
+use Rattle.c99_tree.specs.Words.{is_ring_name}
+use Rattle.c99_tree.specs.Values.{Value, values, Shape, filled, repeated, whole, shape_of, first_values}
+use Rattle.c99_tree.specs.Spelling.{type_text, constant, constants, constant_height, highest_constant, with_commas, most_height, is_u32, is_spelled_type, is_spelled_ring, line, ring_lines, ring_lines_of}
 use Rattle.c99_read.specs.Front.{behind, begins}
 use Rattle.c99_read.specs.LineAt.{a_ring, init_at, ring_lines_at}
 use Rattle.c99_read.proofs.FrontFinds.{behind_front, ends, number_finds, ring_name_finds, ReadsLines, anything}
 use Rattle.c99_read.proofs.TypeFinds.{type_finds}
-use Rattle.c99_read.proofs.WordsFind.{times_spent, value_spent, chained, same_some}
+use Rattle.c99_read.proofs.WordsFind.{times_spent, value_spent, chained}
+use Rattle.std.proofs.lemmas.Option.{same_Some}
 
 -- ---- texts with commas between them
 
@@ -45,7 +46,7 @@ low_values (v ∷ vs) h = let p = and_parts (is_low v) (list_all is_low vs) h in
 
 -- a list of values in which no word is left
 whole-is : (a : List Value × List ℕ) (vs : List Value) → whole a ≡ Some vs → (a.0 ≡ vs) × (a.1 ≡ [])
-whole-is (us, []) vs h = (same_some us vs h, refl)
+whole-is (us, []) vs h = (same_Some us vs h, refl)
 whole-is (us, w ∷ ws) vs h = absurd (cc h)
 
 pair_is : (a : List Value × List ℕ) (vs : List Value) → a.0 ≡ vs → a.1 ≡ [] → ◌≡◌ {A = Option (List Value × List ℕ)} (Some a) (Some (vs, []))

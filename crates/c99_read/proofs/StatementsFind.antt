@@ -6,24 +6,24 @@ use Rattle.std.specs.Option.{option_map_or}
 use Rattle.std.specs.List.{list_all, find}
 use Rattle.std.proofs.lemmas.Bool.{and_parts, leb-true, true≢false}
 use Rattle.sm_io.specs.Words.{is_name}
-use Rattle.c99_ast.specs.declared.types.CScalar.{CScalar}
-use Rattle.c99_ast.specs.declared.types.CScalar.TheVariants as t
-use Rattle.c99_ast.specs.declared.types.CTy.{CTy}
-use Rattle.c99_ast.specs.declared.types.CTy.TheVariants as ty
-use Rattle.c99_ast.specs.declared.unit.CRing.{CRing}
-use Rattle.c99_ast.specs.declared.unit.Unit.{Unit as CUnit}
-use Rattle.c99_ast.specs.Words.{is_ring_name}
-use Rattle.c99_ast.specs.Lookup.{ring_of}
-use Rattle.c99_ast.specs.Tree.{Expr, Exprs, none, more, Stmt, copies, calls, nexts, stores, moves, puts}
-use Rattle.c99_ast.specs.Spelling.{text, parted, height, highest, scalar_text, type_text, most_height, is_spelled, are_spelled, is_spelled_here, are_spelled_here, is_spelled_type, is_spelled_ring, is_spelled_statement, statement_line}
+use Rattle.c99_tree.specs.declared.types.CScalar.{CScalar}
+use Rattle.c99_tree.specs.declared.types.CScalar.TheVariants as t
+use Rattle.c99_tree.specs.declared.types.CTy.{CTy}
+use Rattle.c99_tree.specs.declared.types.CTy.TheVariants as ty
+use Rattle.c99_tree.specs.declared.unit.CRing.{CRing}
+use Rattle.c99_tree.specs.declared.unit.Unit.{Unit as CUnit}
+use Rattle.c99_tree.specs.Words.{is_ring_name}
+use Rattle.c99_tree.specs.Lookup.{ring_of}
+use Rattle.c99_tree.specs.Tree.{Expr, Exprs, none, more, Stmt, copies, calls, nexts, stores, moves, puts}
+use Rattle.c99_tree.specs.Spelling.{text, parted, height, highest, scalar_text, type_text, most_height, is_spelled, are_spelled, is_spelled_here, are_spelled_here, is_spelled_type, is_spelled_ring, is_spelled_statement, statement_line}
 use Rattle.c99_read.specs.Front.{behind, word, after_word, begins}
 use Rattle.c99_read.specs.ExprAt.{expr_at}
 use Rattle.c99_read.specs.LineAt.{given_at, next_at, statement_by, statement_at}
 use Rattle.c99_read.proofs.FrontFinds.{same_self, behind_front, word_front, after_word_front, name_word, ring_word, name_finds, ring_name_finds, ReadsLines, anything}
 use Rattle.c99_read.proofs.TypeFinds.{are_scalars, type_finds}
-use Rattle.c99_read.proofs.WordsFind.{same_some}
 use Rattle.c99_read.proofs.RingsFind.{sound}
 use Rattle.c99_read.proofs.ExprFinds.{Reads, again, all_again, list_finds}
+use Rattle.std.proofs.lemmas.Option.{same_Some}
 
 here_reads : (e : Expr) → is_spelled_here e ≡ true → Reads (expr_at most_height) e
 here_reads e h = let p = and_parts (is_spelled e) (leb (height e) most_height) h in again e most_height (leb-true (height e) most_height p.1) p.0
@@ -121,7 +121,7 @@ not_other rings (ty.Struct x) y h = rw (word_front (codes "struct") (32 ∷ (x +
 not_other rings (ty.Array x n) y h = rw (word_front (codes "struct") (32 ∷ (codes "cp_arr_" ++ x ++ codes "_" ++ decimal n ++ (32 ∷ y))) refl refl) refl
 
 found_by : {A : Type 0} (p : A → Bool) (a x : A) (b : Bool) (o : Option A) → p a ≡ true → (o ≡ Some x → p x ≡ true) → (if b then Some a else o) ≡ Some x → p x ≡ true
-found_by p a x true o h f g = rw (← same_some a x g) h
+found_by p a x true o h f g = rw (← same_Some a x g) h
 found_by p a x false o h f g = f g
 
 found_passes : {A : Type 0} (p test : A → Bool) (xs : List A) (x : A) → list_all p xs ≡ true → find test xs ≡ Some x → p x ≡ true

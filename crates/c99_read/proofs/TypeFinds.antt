@@ -2,12 +2,12 @@
 use Rattle.std.proofs.Common.{◌≡◌, ℕ, ◌^◌, ◌<◌, ◌≤◌, true, false, List, ◌∷◌, ◌++◌, Some, refl, codes, arith}
 use Rattle.std.specs.Fmt.{decimal}
 use Rattle.std.proofs.lemmas.Bool.{and_parts, leb-true}
-use Rattle.c99_ast.specs.declared.types.CScalar.{CScalar}
-use Rattle.c99_ast.specs.declared.types.CScalar.TheVariants as t
-use Rattle.c99_ast.specs.declared.types.CTy.{CTy}
-use Rattle.c99_ast.specs.declared.types.CTy.TheVariants as ty
-use Rattle.c99_ast.specs.Words.{is_same, is_element}
-use Rattle.c99_ast.specs.Spelling.{scalar_text, type_text, is_spelled_type, is_u32}
+use Rattle.c99_tree.specs.declared.types.CScalar.{CScalar}
+use Rattle.c99_tree.specs.declared.types.CScalar.TheVariants as t
+use Rattle.c99_tree.specs.declared.types.CTy.{CTy}
+use Rattle.c99_tree.specs.declared.types.CTy.TheVariants as ty
+use Rattle.c99_tree.specs.Words.{is_same, is_element}
+use Rattle.c99_tree.specs.Spelling.{scalar_text, type_text, is_spelled_type, is_u32}
 use Rattle.c99_read.specs.Front.{behind}
 use Rattle.c99_read.specs.TypeAt.{scalar_of, type_at}
 use Rattle.c99_read.proofs.FrontFinds.{ends, all_word, word_front, after_word_front, all_word-append, name_word, element_word, decimal_word, name_no_cp, array_of-is}

@@ -5,14 +5,14 @@ use Rattle.std.specs.Fmt.{decimal}
 use Rattle.std.specs.List.{list_all}
 use Rattle.std.specs.Option.{option_map, option_and_then}
 use Rattle.std.proofs.lemmas.Fmt.{decimal_nonempty}
-use Rattle.std.proofs.lemmas.Option.{cond_some}
+use Rattle.std.proofs.lemmas.Option.{cond_some, same_Some}
 use Rattle.std.proofs.lemmas.Bool.{and_parts, or_cases, ne_eqb, le-leb, lt-leb, lt-ltb, leb-true, ltb-true, cases_eq, cond_both}
-use Rattle.c99_ast.specs.declared.types.CScalar.{CScalar}
-use Rattle.c99_ast.specs.declared.types.CScalar.TheVariants as t
-use Rattle.c99_ast.specs.CTypes.{Num, num, is_signed}
-use Rattle.c99_ast.specs.Words.{is_digit}
-use Rattle.c99_ast.specs.Values.{Value, Values, number, struct_of, array_of, no_value, and_value, values, is_word, number_of_word, Shape, Shapes, scalar, members, elements, no_shape, and_shape, filled, filled_all, repeated}
-use Rattle.c99_ast.specs.Spelling.{constant, constants, constant_height, highest_constant, signed_constant, number_constant, number_height}
+use Rattle.c99_tree.specs.declared.types.CScalar.{CScalar}
+use Rattle.c99_tree.specs.declared.types.CScalar.TheVariants as t
+use Rattle.c99_tree.specs.CTypes.{Num, num, is_signed}
+use Rattle.c99_tree.specs.Words.{is_digit}
+use Rattle.c99_tree.specs.Values.{Value, Values, number, struct_of, array_of, no_value, and_value, values, is_word, number_of_word, Shape, Shapes, scalar, members, elements, no_shape, and_shape, filled, filled_all, repeated}
+use Rattle.c99_tree.specs.Spelling.{constant, constants, constant_height, highest_constant, signed_constant, number_constant, number_height}
 use Rattle.c99_read.specs.Front.{behind}
 use Rattle.c99_read.specs.WordsAt.{FoundWords, tailed_at, unsigned_at, signed_at, word_at, words_then, times_at, between, words_at, all_words_at}
 use Rattle.c99_read.proofs.FrontFinds.{same_self, behind_front, ends, all_word, word_front, after_word_front, all_word-append, decimal_digits, decimal_word, ends_number, number_front, after_number_front, number_of-decimal, in_range}
@@ -120,9 +120,6 @@ pub chained : {A B : Type 0} (f : A → Option B) (o : Option A) (y : B) → opt
 chained f None y h = absurd (cc h)
 chained f (Some a) y h = (a, refl, h)
 
-pub same_some : {A : Type 0} (x y : A) → Some x ≡ Some y → x ≡ y
-same_some x y h = cc h
-
 constants_end : (vs : Values) (x : List ℕ) → ends x ≡ true → ends (constants (codes ", ") vs ++ x) ≡ true
 constants_end no_value x h = h
 constants_end (and_value v vs) x h = refl
@@ -191,8 +188,8 @@ pub times_spent : (n depth : ℕ) (shape : Shape) (before ws : List ℕ) (vs : L
     → repeated n (filled shape) ws ≡ Some (vs, rest) → highest_constant (values vs) ≤ depth → Spent (times_at n (words_at depth shape) before) (constants before (values vs)) ws rest
 unfolding times_at
 times_spent zero depth shape before ws vs rest one h d =
-    let vs-is : [] ≡ vs = ap (λ (x : List Value × List ℕ). x.0) (same_some ([], ws) (vs, rest) h) in
-    let rest-is : ws ≡ rest = ap (λ (x : List Value × List ℕ). x.1) (same_some ([], ws) (vs, rest) h) in
+    let vs-is : [] ≡ vs = ap (λ (x : List Value × List ℕ). x.0) (same_Some ([], ws) (vs, rest) h) in
+    let rest-is : ws ≡ rest = ap (λ (x : List Value × List ℕ). x.1) (same_Some ([], ws) (vs, rest) h) in
     subst (λ (us : List Value). Spent (times_at zero (words_at depth shape) before) (constants before (values us)) ws rest) vs-is
     (subst (λ (r : List ℕ). Spent (times_at zero (words_at depth shape) before) [] ws r) rest-is (nothing_spent (times_at zero (words_at depth shape) before) ws (λ x. refl)))
 times_spent (suc n) depth shape before ws vs rest one h d =
@@ -231,8 +228,8 @@ mutual
 
   pub all_spent : (shapes : Shapes) (depth : ℕ) (before ws : List ℕ) (vs : Values) (rest : List ℕ) → filled_all shapes ws ≡ Some (vs, rest) → highest_constant vs ≤ depth → Spent (all_words_at depth shapes before) (constants before vs) ws rest
   all_spent no_shape depth before ws vs rest h d =
-      let vs-is : no_value ≡ vs = ap (λ (x : Values × List ℕ). x.0) (same_some (no_value, ws) (vs, rest) h) in
-      let rest-is : ws ≡ rest = ap (λ (x : Values × List ℕ). x.1) (same_some (no_value, ws) (vs, rest) h) in
+      let vs-is : no_value ≡ vs = ap (λ (x : Values × List ℕ). x.0) (same_Some (no_value, ws) (vs, rest) h) in
+      let rest-is : ws ≡ rest = ap (λ (x : Values × List ℕ). x.1) (same_Some (no_value, ws) (vs, rest) h) in
       subst (λ (us : Values). Spent (all_words_at depth no_shape before) (constants before us) ws rest) vs-is
       (subst (λ (r : List ℕ). Spent (all_words_at depth no_shape before) [] ws r) rest-is (nothing_spent (all_words_at depth no_shape before) ws (λ x. refl)))
   all_spent (and_shape shape shapes) depth before ws vs rest h d =

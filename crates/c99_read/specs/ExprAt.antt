@@ -2,15 +2,15 @@
 use Rattle.std.specs.Prelude.{ℕ, zero, suc, Bool, true, false, ◌&&◌, ◌||◌, ◌==◌, if◌then◌else◌, List, [], ◌∷◌, length, codes, Option, Some, None}
 use Rattle.std.specs.List.{find}
 use Rattle.sm_io.specs.Words.{is_name}
-use Rattle.c99_ast.specs.declared.expr.CLit.{CLit}
-use Rattle.c99_ast.specs.declared.expr.CLit.TheVariants as k
-use Rattle.c99_ast.specs.declared.expr.CUn.{CUn}
-use Rattle.c99_ast.specs.declared.expr.CUn.TheVariants as u
-use Rattle.c99_ast.specs.declared.expr.CBin.{CBin}
-use Rattle.c99_ast.specs.declared.expr.CBin.TheVariants as o
-use Rattle.c99_ast.specs.Tree.{Expr, Exprs, lit, yes, no, copy, head, cell, ring_at, un, bin, choose, cast, field, pick, arr, rec, none, more}
-use Rattle.c99_ast.specs.Words.{is_same, is_digit, is_ring_name}
-use Rattle.c99_ast.specs.Spelling.{suffix, most, operator}
+use Rattle.c99_tree.specs.declared.expr.CLit.{CLit}
+use Rattle.c99_tree.specs.declared.expr.CLit.TheVariants as k
+use Rattle.c99_tree.specs.declared.expr.CUn.{CUn}
+use Rattle.c99_tree.specs.declared.expr.CUn.TheVariants as u
+use Rattle.c99_tree.specs.declared.expr.CBin.{CBin}
+use Rattle.c99_tree.specs.declared.expr.CBin.TheVariants as o
+use Rattle.c99_tree.specs.Tree.{Expr, Exprs, lit, yes, no, copy, head, cell, ring_at, un, bin, choose, cast, field, pick, arr, rec, none, more}
+use Rattle.c99_tree.specs.Words.{is_same, is_digit, is_ring_name}
+use Rattle.c99_tree.specs.Spelling.{suffix, most, operator}
 use Rattle.c99_read.specs.Front.{◌>>=◌, behind, word, after_word, token, after_token, number, after_number, number_of, name_at, array_of}
 use Rattle.c99_read.specs.TypeAt.{scalar_of}
 

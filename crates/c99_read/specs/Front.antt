@@ -4,7 +4,7 @@ use Rattle.std.specs.Str.Parse.{digits_value}
 use Rattle.std.specs.List.{list_all}
 use Rattle.sm_io.specs.Names.{is_name_byte}
 use Rattle.sm_io.specs.Words.{is_name}
-use Rattle.c99_ast.specs.Words.{is_digit, is_ring_name, is_element}
+use Rattle.c99_tree.specs.Words.{is_digit, is_ring_name, is_element}
 
 infixl 10 ◌>>=◌
 abbrev pub ◌>>=◌ : {A B : Type 0} → Option A → (A → Option B) → Option B

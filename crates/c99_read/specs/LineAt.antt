@@ -4,16 +4,16 @@ use Rattle.std.specs.Option.{option_map_or}
 use Rattle.std.specs.List.{find}
 use Rattle.std.specs.Fmt.{decimal}
 use Rattle.sm_io.specs.Words.{is_name}
-use Rattle.c99_ast.specs.declared.types.CTy.{CTy}
-use Rattle.c99_ast.specs.declared.types.CVar.{CVar}
-use Rattle.c99_ast.specs.declared.types.CDef.{CDef}
-use Rattle.c99_ast.specs.declared.types.CDef.TheVariants as def
-use Rattle.c99_ast.specs.declared.types.CProto.{CProto}
-use Rattle.c99_ast.specs.declared.unit.CRing.{CRing}
-use Rattle.c99_ast.specs.Words.{is_same, elem_type, is_ring_name}
-use Rattle.c99_ast.specs.Tree.{Expr, Stmt, copies, calls, nexts, stores, moves, puts}
-use Rattle.c99_ast.specs.Values.{shape_of}
-use Rattle.c99_ast.specs.Spelling.{type_text, most_height}
+use Rattle.c99_tree.specs.declared.types.CTy.{CTy}
+use Rattle.c99_tree.specs.declared.types.CVar.{CVar}
+use Rattle.c99_tree.specs.declared.types.CDef.{CDef}
+use Rattle.c99_tree.specs.declared.types.CDef.TheVariants as def
+use Rattle.c99_tree.specs.declared.types.CProto.{CProto}
+use Rattle.c99_tree.specs.declared.unit.CRing.{CRing}
+use Rattle.c99_tree.specs.Words.{is_same, elem_type, is_ring_name}
+use Rattle.c99_tree.specs.Tree.{Expr, Stmt, copies, calls, nexts, stores, moves, puts}
+use Rattle.c99_tree.specs.Values.{shape_of}
+use Rattle.c99_tree.specs.Spelling.{type_text, most_height}
 use Rattle.c99_read.specs.Front.{◌>>=◌, behind, word, after_word, number_at, name_at, ring_name_at, array_of, all_at, begins}
 use Rattle.c99_read.specs.TypeAt.{type_at}
 use Rattle.c99_read.specs.ExprAt.{expr_at, list_at}

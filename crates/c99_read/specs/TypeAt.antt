@@ -2,11 +2,11 @@
 use Rattle.std.specs.Prelude.{ℕ, if◌then◌else◌, List, codes, Option, Some, None}
 use Rattle.std.specs.List.{find}
 use Rattle.sm_io.specs.Words.{is_name}
-use Rattle.c99_ast.specs.declared.types.CScalar.{CScalar}
-use Rattle.c99_ast.specs.declared.types.CTy.{CTy}
-use Rattle.c99_ast.specs.declared.types.CTy.TheVariants as ty
-use Rattle.c99_ast.specs.Words.{is_same, scalars}
-use Rattle.c99_ast.specs.Spelling.{scalar_text}
+use Rattle.c99_tree.specs.declared.types.CScalar.{CScalar}
+use Rattle.c99_tree.specs.declared.types.CTy.{CTy}
+use Rattle.c99_tree.specs.declared.types.CTy.TheVariants as ty
+use Rattle.c99_tree.specs.Words.{is_same, scalars}
+use Rattle.c99_tree.specs.Spelling.{scalar_text}
 use Rattle.c99_read.specs.Front.{◌>>=◌, behind, word, after_word, array_of}
 
 unfoldable pub scalar_of : List ℕ → Option CScalar

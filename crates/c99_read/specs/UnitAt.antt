@@ -2,14 +2,14 @@
 use Rattle.std.specs.Prelude.{ℕ, if◌then◌else◌, List, [], ◌∷◌, ◌++◌, codes, Option, Some, None}
 use Rattle.std.specs.List.{flat_map}
 use Rattle.sm_io.specs.Words.{is_name}
-use Rattle.c99_ast.specs.declared.types.CVar.{CVar}
-use Rattle.c99_ast.specs.declared.types.CDef.{CDef}
-use Rattle.c99_ast.specs.declared.types.CProto.{CProto}
-use Rattle.c99_ast.specs.declared.unit.CRing.{CRing}
-use Rattle.c99_ast.specs.Words.{is_same}
-use Rattle.c99_ast.specs.Lookup.{arrays_in}
-use Rattle.c99_ast.specs.Tree.{Stmt}
-use Rattle.c99_ast.specs.Spelling.{pick_line, copy_line}
+use Rattle.c99_tree.specs.declared.types.CVar.{CVar}
+use Rattle.c99_tree.specs.declared.types.CDef.{CDef}
+use Rattle.c99_tree.specs.declared.types.CProto.{CProto}
+use Rattle.c99_tree.specs.declared.unit.CRing.{CRing}
+use Rattle.c99_tree.specs.Words.{is_same}
+use Rattle.c99_tree.specs.Lookup.{arrays_in}
+use Rattle.c99_tree.specs.Tree.{Stmt}
+use Rattle.c99_tree.specs.Spelling.{pick_line, copy_line}
 use Rattle.c99_read.specs.Front.{◌>>=◌, behind, word, after_word, number_at, all_at, begins}
 use Rattle.c99_read.specs.LineAt.{def_at, extern_at, handler_at, is_handler, ring_lines_at, statement_at}
 

@@ -1,9 +1,9 @@
 -- Reading a constant at the front of a text, as the words of its value.
 use Rattle.std.specs.Prelude.{ℕ, zero, suc, ◌-◌, ◌^◌, nat_le, if◌then◌else◌, List, [], ◌∷◌, ◌++◌, codes, Option, Some, None}
-use Rattle.c99_ast.specs.declared.types.CScalar.{CScalar}
-use Rattle.c99_ast.specs.declared.types.CScalar.TheVariants as t
-use Rattle.c99_ast.specs.Words.{is_same}
-use Rattle.c99_ast.specs.Values.{Shape, Shapes, scalar, members, elements, no_shape, and_shape}
+use Rattle.c99_tree.specs.declared.types.CScalar.{CScalar}
+use Rattle.c99_tree.specs.declared.types.CScalar.TheVariants as t
+use Rattle.c99_tree.specs.Words.{is_same}
+use Rattle.c99_tree.specs.Values.{Shape, Shapes, scalar, members, elements, no_shape, and_shape}
 use Rattle.c99_read.specs.Front.{◌>>=◌, behind, word, after_word, number, after_number, number_of}
 
 abbrev pub FoundWords : Type 0

@@ -11,8 +11,8 @@ use Rattle.extern_rows.specs.declared.fault.RowFault.{RowFault}
 use Rattle.extern_rows.specs.declared.fault.RowFault.TheVariants.{NoColumn, TwoColumns, BadRecord, BadField, LineTooLong, TooManyLines, Memory}
 use Rattle.extern_rows.specs.declared.header.Leaf.{Leaf}
 use Rattle.extern_rows.specs.declared.header.Wanted.{Wanted}
-use Rattle.extern_rows.specs.Columns.{before, places_from, column_at, column_of, wanted_at, wanted_from, cell_word, word_at, words_from}
-use Rattle.extern_rows.specs.Reads.{behind, seen_at, ReadsWanted}
+use Rattle.extern_rows.specs.Columns.{before, places_from, column_at, column_of, wanted_at, wanted_from, cell_word}
+use Rattle.extern_rows.specs.LeafReading.{behind, seen_at, ReadsWanted}
 use Rattle.extern_rows.specs.Fields.{trimmed, field_word}
 
 pub field_at-get : (xs : List (List ℕ)) (i : ℕ) → field_at xs i ≡ slice_get xs i
@@ -80,14 +80,6 @@ leaf_missed leaves names i leaf front fault low is missed so_far =
     ∙ ap (λ r. behind front (before r (wanted_from (i + 1) (drop (i + 1) leaves) names))) (sym missed)
 
 -- ---- words
-
-pub word_found : (wanted : List Wanted) (fields : List (List ℕ)) (i : ℕ) (w : Wanted) (front : List ℕ) (word : ℕ) → i < length wanted → w ≡ get_or wanted i w
-    → Some word ≡ cell_word w fields → words_from 0 wanted fields ≡ behind front (words_from i (drop i wanted) fields)
-    → words_from 0 wanted fields ≡ behind (front ++ word ∷ []) (words_from (i + 1) (drop (i + 1) wanted) fields)
-word_found wanted fields i w front word low is found so_far =
-    so_far ∙ ap (λ ws. behind front (words_from i ws fields)) (next_of wanted i w low is)
-    ∙ ap (λ r. behind front (before (word_at i r) (words_from (i + 1) (drop (i + 1) wanted) fields))) (sym found)
-    ∙ behind_one front word (words_from (i + 1) (drop (i + 1) wanted) fields)
 
 -- ---- fields
 

@@ -1,6 +1,6 @@
 -- The leaves of a value by the entry of its type, and their scalars.
-use Rattle.std.proofs.Common.{◌≡◌, ℕ, zero, suc, ◌+◌, ◌-◌, ◌*◌, ◌<◌, ◌≤◌, List, [], ◌∷◌, ◌++◌, length, map, take, drop, get_or, refl, arith, ap, sym, ◌∙◌, subst, append_assoc, append-nil, length-append, add-one, drop-cons, unwrap_or}
-use Rattle.std.specs.Prelude.{slice_get, Option, Some, None, All}
+use Rattle.std.proofs.Common.{◌≡◌, ℕ, zero, suc, ◌+◌, ◌-◌, ◌*◌, ◌<◌, ◌≤◌, List, [], ◌∷◌, ◌++◌, length, map, take, drop, get_or, refl, arith, ap, sym, ◌∙◌, subst, append_assoc, length-append, add-one, drop-cons, unwrap_or}
+use Rattle.std.specs.Prelude.{slice_get, Option, Some, All}
 use Rattle.std.proofs.lemmas.List.{map_push, take-append-drop, take-append-le}
 use Rattle.stream_types.specs.declared.scalar.Scalar.{Scalar}
 use Rattle.stream_types.specs.declared.scalar.Ty.{Ty}
@@ -10,7 +10,7 @@ use Rattle.stream_types.specs.declared.types.TypeEntry.{TypeEntry}
 use Rattle.stream_types.specs.declared.types.TypeEntry.TheVariants as entry
 use Rattle.stream_types.specs.Types.{repeated, leaves_at, leaves_of_fields, leaves_of_entry, all_leaves, leaves}
 use Rattle.stream_types.specs.TypeList.{IsArrayEntry, IsStructEntry, Stands, IsGoodEntry, IsTypeList}
-use Rattle.stream_types.proofs.Lists.{within, take-length}
+use Rattle.stream_types.proofs.GrownLists.{within, take-length}
 use Rattle.stream_types.proofs.TypeLists.{Stands-take}
 use Rattle.stream_types.proofs.Widths.{Stands-element}
 use Rattle.extern_rows.specs.declared.header.Leaf.{Leaf}
@@ -105,9 +105,6 @@ tails_is types i e h p =
     ∙ ap (λ (ts : List TypeEntry). Some (of_entry (all_tails [] ts) e)) (take-append-drop i types)
 
 -- ---- the leaves of a value, by its type
-
-pub columns-scalar : (types : List TypeEntry) (name : List ℕ) (s : Scalar) → leaf_columns types name (ty.Scalar s) ≡ named s name ∷ []
-columns-scalar types name s = ap (λ (n : List ℕ). named s n ∷ []) (append-nil name)
 
 pub columns-array : (types : List TypeEntry) (name : List ℕ) (i : ℕ) (elem : Ty) (n : ℕ) → IsTypeList types → slice_get types i ≡ Some (entry.Array elem n)
     → leaf_columns types name (ty.Array i) ≡ under name (of_elements 0 n (tails_at (all_tails [] types) elem))

@@ -1,6 +1,6 @@
 pub mod Pieces
 pub mod Feeds
 pub mod Cells
-pub mod Standing
+pub mod FeedStanding
 pub mod RowLines
 pub mod LeafNames

@@ -5,8 +5,8 @@ use Rattle.std.proofs.lemmas.List.Splits.{slice_split_none, slice_split_at}
 use Rattle.extern_rows.specs.declared.header.Leaf.{Leaf}
 use Rattle.extern_rows.specs.Lines.{is_break, limit_fault}
 use Rattle.extern_rows.specs.Columns.{Columns}
-use Rattle.extern_rows.specs.Rows.{within_limits, at_line, rows_from, RowsByLines, RowsOfRest}
-use Rattle.extern_rows.proofs.Standing.{some_parts}
+use Rattle.extern_rows.specs.SampleRows.{within_limits, at_line, rows_from, RowsByLines, RowsOfRest}
+use Rattle.extern_rows.proofs.FeedStanding.{some_parts}
 
 before_more : (leaves : List Leaf) (ended : Bool) (number offset : ℕ) (line q : List ℕ) (qs : List (List ℕ)) (header : Option Columns)
     → rows_from leaves ended number offset (line ∷ q ∷ qs) header

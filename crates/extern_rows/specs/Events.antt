@@ -1,20 +1,17 @@
 -- The line of an event.
-use Rattle.std.specs.Prelude.{ℕ, Bool, true, false, IsTrue, ◌==◌, if◌then◌else◌, List, [], ◌∷◌, ◌++◌, drop, codes, decimal}
-use Rattle.std.specs.Fmt.{signed_decimal}
+use Rattle.std.specs.Prelude.{ℕ, Bool, true, false, IsTrue, List, [], ◌∷◌, ◌++◌, drop, codes, decimal}
 use Rattle.stream_types.specs.declared.scalar.Scalar.{Scalar}
 use Rattle.stream_types.specs.declared.scalar.Scalar.TheVariants as scalar
 use Rattle.stream_types.specs.Types.{signed}
-use Rattle.stream_types.specs.Numbers.{number_at, is_word}
+use Rattle.stream_types.specs.Numbers.{is_word}
+use Rattle.spec_words.specs.Words.{truth_text}
+use Rattle.spec_words.specs.Literals.{number_text}
 use Rattle.extern_rows.specs.declared.event.Piece.{Piece}
 use Rattle.extern_rows.specs.declared.event.Piece.TheVariants.{Gap, Word, Open, Comma, Close}
 
 -- a truth value by its word, a number in decimal
-abbrev pub number_text : Bool → ℕ → List ℕ
-number_text true w = signed_decimal (number_at true w)
-number_text false w = decimal w
-
 abbrev pub word_text : Scalar → ℕ → List ℕ
-word_text scalar.Bool w = if w == 0 then codes "false" else codes "true"
+word_text scalar.Bool w = truth_text w
 word_text s w = number_text (signed s) w
 
 -- how many words a part takes

@@ -1,11 +1,11 @@
 pub mod Lines
 pub mod Feeding
-pub mod Standing
-pub mod Limits
+pub mod FeedStanding
+pub mod FeedLimits
 pub mod Fields
 pub mod Records
 pub mod Columns
-pub mod Rows
-pub mod Reads
+pub mod SampleRows
+pub mod LeafReading
 pub mod Events
 pub mod Leaves

@@ -7,6 +7,7 @@ ghost use Rattle.extern_rows.specs.Events.{Fits, FitsFirst, piece_words, piece_t
 
 use itoa::Buffer;
 use sm_io::{Failed, Sink, write_all};
+use spec_words::truth_text;
 use stream_types::Scalar;
 
 /// A part of an event's arguments, in the order in which they are written.
@@ -43,7 +44,7 @@ fn write_word<K: Sink>(sink: &mut K, scalar: Scalar, word: u64) -> Result<(), Fa
     ensures { WritesText (K.taken sink.old) (K.taken sink.new) (K.faults sink.old) (K.faults sink.new) (is_ok result) (word_text scalar word) }
 {
     match scalar {
-        Scalar::Bool => write_all(sink, if word == 0 { b"false" } else { b"true" }),
+        Scalar::Bool => write_all(sink, truth_text(word)),
         Scalar::Int8 | Scalar::Int16 | Scalar::Int32 | Scalar::Int64 => write_signed(sink, word),
         Scalar::Word8 | Scalar::Word16 | Scalar::Word32 | Scalar::Word64 => write_unsigned(
             sink, word,
@@ -101,7 +102,8 @@ pub fn event_line<K: Sink>(
     words: &[u64],
 ) -> Result<(), Failed>
     requires { Fits shape.now words.now }
-    ensures { WritesText (K.taken sink.old) (K.taken sink.new) (K.faults sink.old) (K.faults sink.new) (is_ok result) (event_text step mark name.now shape.now words.now) }
+    ensures { WritesText (K.taken sink.old) (K.taken sink.new) (K.faults sink.old) (K.faults sink.new) (is_ok result)
+        (event_text step mark name.now shape.now words.now) }
 {
     write_unsigned(sink, step)?;
     write_all(sink, before_name(mark))?;

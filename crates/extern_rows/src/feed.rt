@@ -3,8 +3,8 @@ ghost use Rattle.std.specs.Prelude.{◌≡◌, ◌+◌, ◌-◌, ◌≤◌, ◌&
 ghost use Rattle.std.specs.List.{position, position_or_len};
 ghost use Rattle.extern_rows.specs.Lines.{is_break, first_line, without_cr};
 ghost use Rattle.extern_rows.specs.Feeding.{start, next_line, fed, pushed};
-ghost use Rattle.extern_rows.specs.Limits.{fault_of};
-ghost use Rattle.extern_rows.specs.Standing.{StandsInTexts, CutsAnywhere, MovesOn};
+ghost use Rattle.extern_rows.specs.FeedLimits.{fault_of};
+ghost use Rattle.extern_rows.specs.FeedStanding.{StandsInTexts, CutsAnywhere, MovesOn};
 
 use crate::fault::RowFault;
 use std::alloc::{AllocError, Global};
@@ -57,7 +57,7 @@ impl Model for Feed {
     ghost use Rattle.std.specs.Prelude.{◌≡◌, ◌≤◌, take, vec_len};
     ghost use Rattle.std.specs.Option.{option_map};
     ghost use Rattle.extern_rows.specs.Feeding.{Feeding};
-    ghost use Rattle.extern_rows.specs.Limits.{fault_of};
+    ghost use Rattle.extern_rows.specs.FeedLimits.{fault_of};
 
     ghost Value = { Feeding };
 

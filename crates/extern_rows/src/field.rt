@@ -1,12 +1,13 @@
 // The words of fields.
-ghost use Rattle.std.specs.Prelude.{◌≡◌, ◌≤◌, true, min, Some, length, reverse};
-ghost use Rattle.std.specs.List.{prefix_len, list_all};
-ghost use Rattle.std.specs.Option.{option_and_then};
+ghost use Rattle.std.specs.Prelude.{◌≡◌, ◌≤◌, length, reverse};
+ghost use Rattle.std.specs.List.{prefix_len};
+ghost use Rattle.std.specs.Option.{option_map, option_and_then};
+ghost use Rattle.spec_words.specs.Magnitudes.{magnitude_of, word_in};
 ghost use Rattle.extern_rows.specs.Lines.{is_blank_byte};
-ghost use Rattle.extern_rows.specs.Fields.{trimmed, is_digit, is_numeral, digits_number, magnitude, below_word, word_in, signed_number, truth_word, field_number, field_word, greatest_size, least_size};
-ghost use Rattle.stream_types.specs.Types.{bits, signed};
+ghost use Rattle.extern_rows.specs.Fields.{trimmed, numeral_of, field_truth, field_number, field_word};
 
 use crate::blank::is_blank_byte;
+use spec_words::{Magnitude, are_digits, truth_of, value_of, word_of};
 use stream_types::Scalar;
 
 fn blanks_at_front(text: &[u8]) -> usize
@@ -34,77 +35,23 @@ pub fn trimmed(text: &[u8]) -> &[u8]
     &rest[..rest.len() - blanks_at_end(rest)]
 }
 
-fn are_digits(text: &[u8]) -> bool
-    ensures { result ≡ list_all is_digit text.now }
+// The number of one digit or more.
+fn numeral_of(text: &[u8]) -> Option<Magnitude>
+    ensures { result ≡ option_map magnitude_of (numeral_of text.now) }
 {
-    text.iter().all(|byte| byte.is_ascii_digit())
-}
-
-fn is_numeral(text: &[u8]) -> bool
-    ensures { result ≡ is_numeral text.now }
-{
-    !text.is_empty() && are_digits(text)
-}
-
-// The number that digits write, or 2^64 where it is more.
-fn digits_number(digits: &[u8]) -> u128
-    requires { list_all is_digit digits.now ≡ true }
-    ensures { result ≡ min (digits_number digits.now) 18446744073709551616 }
-{
-    let mut size: u128 = 0;
-    for digit in digits {
-        size = (size * 10 + u128::from(*digit - b'0')).min(1 << 64);
-    }
-    size
-}
-
-// The number that digits write, unless it is 2^64 or more.
-fn magnitude(text: &[u8]) -> Option<u64>
-    ensures { result ≡ option_and_then below_word (magnitude text.now) }
-{
-    if !is_numeral(text) {
+    if text.is_empty() || !are_digits(text) {
         return None;
     }
-    u64::try_from(digits_number(text)).ok()
-}
-
-// The greatest number of a type, and the size of its least.
-fn ends(scalar: Scalar) -> (u64, u64)
-    ensures { result ≡ (greatest_size (bits scalar) (signed scalar), least_size (bits scalar) (signed scalar)) }
-{
-    match scalar {
-        Scalar::Int8 => (0x7F, 0x80),
-        Scalar::Int16 => (0x7FFF, 0x8000),
-        Scalar::Int32 => (0x7FFF_FFFF, 0x8000_0000),
-        Scalar::Int64 => (0x7FFF_FFFF_FFFF_FFFF, 0x8000_0000_0000_0000),
-        Scalar::Bool | Scalar::Word8 => (0xFF, 0),
-        Scalar::Word16 => (0xFFFF, 0),
-        Scalar::Word32 => (0xFFFF_FFFF, 0),
-        Scalar::Word64 => (u64::MAX, 0),
-    }
-}
-
-// The word of a number by its sign and its size, where the type has it.
-fn sized_word(scalar: Scalar, minus: bool, size: u64) -> Option<u64>
-    ensures { result ≡ word_in scalar (signed_number minus size) }
-{
-    let (greatest, least) = ends(scalar);
-    if minus && size <= least {
-        Some(size.wrapping_neg())
-    } else if !minus && size <= greatest {
-        Some(size)
-    } else {
-        None
-    }
+    Some(value_of(text))
 }
 
 fn truth(text: &[u8]) -> Option<u64>
-    ensures { result ≡ truth_word text.now }
+    ensures { result ≡ field_truth text.now }
 {
     match text {
-        b"true" | b"1" => Some(1),
-        b"false" | b"0" => Some(0),
-        _ => None,
+        b"1" => Some(1),
+        b"0" => Some(0),
+        _ => truth_of(text),
     }
 }
 
@@ -112,8 +59,8 @@ fn integer(scalar: Scalar, text: &[u8]) -> Option<u64>
     ensures { result ≡ option_and_then (word_in scalar) (field_number text.now) }
 {
     match text.split_first() {
-        Some((b'-', digits)) => sized_word(scalar, true, magnitude(digits)?),
-        _ => sized_word(scalar, false, magnitude(text)?),
+        Some((b'-', digits)) => word_of(scalar, true, numeral_of(digits)?),
+        _ => word_of(scalar, false, numeral_of(text)?),
     }
 }
 

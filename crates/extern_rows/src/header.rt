@@ -4,8 +4,8 @@ ghost use Rattle.std.specs.HashMap as hash;
 ghost use Rattle.csv.specs.Records.{fields_of};
 ghost use Rattle.extern_rows.specs.Fields.{trimmed};
 ghost use Rattle.extern_rows.specs.Columns.{column_of, wanted_at, cell_word, ReadsHeader, ReadsRow};
-ghost use Rattle.extern_rows.specs.Rows.{RowsByLines, RowsOfRest};
-ghost use Rattle.extern_rows.specs.Reads.{seen_at, ReadsWanted, ReadsWords};
+ghost use Rattle.extern_rows.specs.SampleRows.{RowsByLines, RowsOfRest};
+ghost use Rattle.extern_rows.specs.LeafReading.{seen_at, ReadsWanted, ReadsWords};
 
 use crate::fault::RowFault;
 use crate::field::{field_word, trimmed};

@@ -1,6 +1,9 @@
-//! Samples in, events out. A text of comma-separated values comes in pieces of any size, and a list of the wanted
-//! columns. Its lines go out (specs/Feeding.antt and Standing.antt say which), the columns of its header and the words
-//! of each row (specs/Columns.antt; specs/Rows.antt has the whole text), and the line of an event (specs/Events.antt).
+//! Samples and events.
+//! In: a text of comma-separated values in pieces of any size, and a list of the wanted columns. Out: its lines, the
+//! columns of its header and the words of each row; and the line of an event.
+//! specs/Feeding.antt and specs/FeedStanding.antt say which line a feed holds (`Feed::push`), specs/Columns.antt what a
+//! header and a row say (`Header::row`), specs/SampleRows.antt the rows of a whole text, and specs/Events.antt the line
+//! of an event (`event_line`).
 #![tactic(auto)]
 
 mod blank;

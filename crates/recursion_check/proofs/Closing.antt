@@ -11,10 +11,11 @@ use Rattle.stream_core.specs.Value.{SpecValue}
 use Rattle.recursion_check.specs.declared.walk.Mark.{Mark}
 use Rattle.recursion_check.specs.declared.walk.Mark.TheVariants as mark
 use Rattle.recursion_check.specs.declared.edges.Edge.{Edge}
-use Rattle.recursion_check.specs.Graph.{Has, Joins, Steps, Reaches, LiesOnRing}
+use Rattle.recursion_check.specs.Graph.{Has, Joins, Steps, Reaches, LiesOnCycle}
 use Rattle.recursion_check.specs.Walked.{HasEdge, Near, IsOpenNear, IsLeast, IsWalk, StaysOld, fresh, mark_all, lesser, least_def}
-use Rattle.recursion_check.proofs.Lists.{has_left, has_push, has_pushed, rising_front, rising_last, get_take, take_get, within_get, set_same, set_other, in_or_out, mark_length, mark_out, mark_stays, mark_in, has_drop, drop_has}
+use Rattle.recursion_check.proofs.ListElements.{has_left, has_push, has_pushed, rising_front, rising_last, get_take, take_get, set_same, set_other, in_or_out, mark_length, mark_out, mark_stays, mark_in, has_drop, drop_has}
 use Rattle.recursion_check.proofs.Walking.{way_on}
+use Rattle.sm_io.proofs.Elements.{get_within}
 
 open_is_one : (marks : List Mark) (v i j : ℕ) → slice_get marks v ≡ Some (mark.Open i) → slice_get marks v ≡ Some (mark.Open j) → i ≡ j
 open_is_one marks v i j e f = cc
@@ -29,15 +30,15 @@ one_of : (xs : List ℕ) (i x y : ℕ) → slice_get xs i ≡ Some x → slice_g
 one_of xs i x y e f = cc
 
 module _ (s : SpecValue) where
-  -- ---- the least def on a ring
+  -- ---- the least def on a cycle
 
-  ring_of : (u : ℕ) (first : Option ℕ) → ((f : ℕ) → first ≡ Some f → (f < length s.defs) × LiesOnRing s f) → u < length s.defs → LiesOnRing s u → (f : ℕ) → lesser first u ≡ Some f → (f < length s.defs) × LiesOnRing s f
-  ring_of u None h b r f e = let q : u ≡ f = cc in subst (λ k. (k < length s.defs) × LiesOnRing s k) q (b, r)
-  ring_of u (Some g) h b r f e =
+  cycle_of : (u : ℕ) (first : Option ℕ) → ((f : ℕ) → first ≡ Some f → (f < length s.defs) × LiesOnCycle s f) → u < length s.defs → LiesOnCycle s u → (f : ℕ) → lesser first u ≡ Some f → (f < length s.defs) × LiesOnCycle s f
+  cycle_of u None h b r f e = let q : u ≡ f = cc in subst (λ k. (k < length s.defs) × LiesOnCycle s k) q (b, r)
+  cycle_of u (Some g) h b r f e =
       let q : min g u ≡ f = cc in
       ⊎_elim
-      (λ less. let m : g ≡ f = omega (arith, q, less) in subst (λ k. (k < length s.defs) × LiesOnRing s k) m (h g refl))
-      (λ le. let m : u ≡ f = omega (arith, q, le) in subst (λ k. (k < length s.defs) × LiesOnRing s k) m (b, r))
+      (λ less. let m : g ≡ f = omega (arith, q, less) in subst (λ k. (k < length s.defs) × LiesOnCycle s k) m (h g refl))
+      (λ le. let m : u ≡ f = omega (arith, q, le) in subst (λ k. (k < length s.defs) × LiesOnCycle s k) m (b, r))
       (cases_lt g u)
 
   lesser_is : (u : ℕ) (first : Option ℕ) → (f : ℕ) × (lesser first u ≡ Some f) × (f ≤ u)
@@ -51,10 +52,10 @@ module _ (s : SpecValue) where
   abbrev with_place : Option ℕ → ℕ → Option ℕ
   with_place first u = if nat_lt u (length s.defs) then lesser first u else first
 
-  place_by : (marks : List Mark) (first : Option ℕ) (u : ℕ) → IsLeast s marks first → LiesOnRing s u → (t : Bool) → nat_lt u (length s.defs) ≡ t → IsLeast s (set marks u mark.Done) (if t then lesser first u else first)
-  place_by marks first u l r true t = record { ring = ring_of u first l.ring (let b : u < length s.defs = grind (arith, nat_tests) in b) r; below = below }
+  place_by : (marks : List Mark) (first : Option ℕ) (u : ℕ) → IsLeast s marks first → LiesOnCycle s u → (t : Bool) → nat_lt u (length s.defs) ≡ t → IsLeast s (set marks u mark.Done) (if t then lesser first u else first)
+  place_by marks first u l r true t = record { on_cycle = cycle_of u first l.on_cycle (let b : u < length s.defs = grind (arith, nat_tests) in b) r; below = below }
     where
-      below : (d : ℕ) → d < length s.defs → slice_get (set marks u mark.Done) d ≡ Some mark.Done → LiesOnRing s d → (f : ℕ) × (lesser first u ≡ Some f) × (f ≤ d)
+      below : (d : ℕ) → d < length s.defs → slice_get (set marks u mark.Done) d ≡ Some mark.Done → LiesOnCycle s d → (f : ℕ) × (lesser first u ≡ Some f) × (f ≤ d)
       below d b e lr =
           ⊎_elim
           (λ same. let q = lesser_is u first in let le = q.2 in (q.0, q.1, omega (arith, le, same)))
@@ -65,26 +66,26 @@ module _ (s : SpecValue) where
           let c = g.2 in
           (q.0, q.1, omega (arith, a, c)))
           (cases_eq u d)
-  place_by marks first u l r false t = record { ring = l.ring; below = below }
+  place_by marks first u l r false t = record { on_cycle = l.on_cycle; below = below }
     where
-      below : (d : ℕ) → d < length s.defs → slice_get (set marks u mark.Done) d ≡ Some mark.Done → LiesOnRing s d → (f : ℕ) × (first ≡ Some f) × (f ≤ d)
+      below : (d : ℕ) → d < length s.defs → slice_get (set marks u mark.Done) d ≡ Some mark.Done → LiesOnCycle s d → (f : ℕ) × (first ≡ Some f) × (f ≤ d)
       below d b e lr =
           ⊎_elim
           (λ same. absurd (let far : length s.defs ≤ u = grind (arith, nat_tests) in omega (arith, far, same, b)))
           (λ ne. l.below d b (sym (set_other marks u d mark.Done ne) ∙ e) lr)
           (cases_eq u d)
 
-  place_least : (marks : List Mark) (first : Option ℕ) (u : ℕ) → IsLeast s marks first → LiesOnRing s u → IsLeast s (set marks u mark.Done) (with_place first u)
+  place_least : (marks : List Mark) (first : Option ℕ) (u : ℕ) → IsLeast s marks first → LiesOnCycle s u → IsLeast s (set marks u mark.Done) (with_place first u)
   place_least marks first u l r = place_by marks first u l r (nat_lt u (length s.defs)) refl
 
-  -- all places of a group lie on rings
-  pub many_least : (vs : List ℕ) (marks : List Mark) (first : Option ℕ) → IsLeast s marks first → ((v : ℕ) → Has vs v → LiesOnRing s v) → IsLeast s (mark_all marks vs) (least_def (length s.defs) first vs)
+  -- all places of a group lie on cycles
+  pub many_least : (vs : List ℕ) (marks : List Mark) (first : Option ℕ) → IsLeast s marks first → ((v : ℕ) → Has vs v → LiesOnCycle s v) → IsLeast s (mark_all marks vs) (least_def (length s.defs) first vs)
   many_least [] marks first l r = l
   many_least (x ∷ vs) marks first l r = many_least vs (set marks x mark.Done) (with_place first x) (place_least marks first x l (r x (inl refl))) (λ v h. r v (inr h))
 
   -- none of them does
-  pub none_least : (vs : List ℕ) (marks : List Mark) (first : Option ℕ) → IsLeast s marks first → ((v : ℕ) → Has vs v → LiesOnRing s v → ⊥) → IsLeast s (mark_all marks vs) first
-  none_least vs marks first l r = record { ring = l.ring; below = λ d b e lr. ⊎_elim (λ h. absurd (r d h lr)) (λ out. l.below d b (sym (mark_out vs marks d out) ∙ e) lr) (in_or_out vs d) }
+  pub none_least : (vs : List ℕ) (marks : List Mark) (first : Option ℕ) → IsLeast s marks first → ((v : ℕ) → Has vs v → LiesOnCycle s v → ⊥) → IsLeast s (mark_all marks vs) first
+  none_least vs marks first l r = record { on_cycle = l.on_cycle; below = λ d b e lr. ⊎_elim (λ h. absurd (r d h lr)) (λ out. l.below d b (sym (mark_out vs marks d out) ∙ e) lr) (in_or_out vs d) }
 
   -- ---- a group
 
@@ -123,39 +124,39 @@ module _ (s : SpecValue) where
 
     -- ---- two places of the group at least
 
-    pub all_on_rings : 1 < length (drop b path) → (v : ℕ) → Has (drop b path) v → LiesOnRing s v
-    all_on_rings many v h =
+    pub all_on_cycles : 1 < length (drop b path) → (v : ℕ) → Has (drop b path) v → LiesOnCycle s v
+    all_on_cycles many v h =
         let r = has_drop b path v h in
         ⊎_elim (λ e. other r.0 r.1 r.2 (suc b) (omega arith) (let l = length-drop b path in omega (arith, many, l)) (omega (arith, e))) (λ ne. other r.0 r.1 r.2 b (omega arith) b_in ne) (cases_eq r.0 b)
       where
-        other : (i : ℕ) → b ≤ i → slice_get path i ≡ Some v → (k : ℕ) → b ≤ k → k < length path → i ≢ k → LiesOnRing s v
+        other : (i : ℕ) → b ≤ i → slice_get path i ≡ Some v → (k : ℕ) → b ≤ k → k < length path → i ≢ k → LiesOnCycle s v
         other i ge p k gk bk ne =
-            let y = within_get path k bk in
+            let y = get_within path k bk in
             let there = w.near i k v y.0 p y.1 (λ c q le. let z = starts_low c q in omega (arith, z, gk)) in
             let back = w.near k i y.0 v y.1 p (λ c q le. let z = starts_low c q in omega (arith, z, ge)) in
             ways there.0 y.0 there.1 back (λ e. ne (open_is_one marks v i k (w.placed i v p) (subst (λ x. slice_get marks x ≡ Some (mark.Open k)) (sym e) (w.placed k y.0 y.1))))
           where
-            ways : (n y : ℕ) → Steps s n v y → Reaches s y v → (v ≡ y → ⊥) → LiesOnRing s v
+            ways : (n y : ℕ) → Steps s n v y → Reaches s y v → (v ≡ y → ⊥) → LiesOnCycle s v
             ways zero y e back no_ = absurd (no_ e)
             ways (suc n) y st back no_ = (st.0, st.1, way_on s st.0 y v (n, st.2) back)
 
     -- ---- one place
 
-    pub none_on_ring : length (drop b path) ≤ 1 → ((x : ℕ) → Joins s x x → ⊥) → (v : ℕ) → Has (drop b path) v → LiesOnRing s v → ⊥
-    none_on_ring few no_loop v h ring =
+    pub none_on_cycle : length (drop b path) ≤ 1 → ((x : ℕ) → Joins s x x → ⊥) → (v : ℕ) → Has (drop b path) v → LiesOnCycle s v → ⊥
+    none_on_cycle few no_loop v h way =
         let r = has_drop b path v h in
         let o = w.placed r.0 v r.2 in
         ⊎_elim
-        (λ d. open_not_done marks v r.0 o (done_reach ring.2.0 ring.0 v d ring.2.1))
+        (λ d. open_not_done marks v r.0 o (done_reach way.2.0 way.0 v d way.2.1))
         (λ n.
         let l = length-drop b path in
         let x = slice_get_within path r.0 v r.2 in
-        let y = slice_get_within path n.0 ring.0 n.2 in
+        let y = slice_get_within path n.0 way.0 n.2 in
         let ge = r.1 in
         let gk = n.1 in
         let same : n.0 ≡ r.0 = omega (arith, l, x, y, few, ge, gk) in
-        no_loop v (subst (Joins s v) (one_of path r.0 ring.0 v (subst (λ k. slice_get path k ≡ Some ring.0) same n.2) r.2) ring.1))
-        (leads r.0 v ring.0 r.1 r.2 ring.1)
+        no_loop v (subst (Joins s v) (one_of path r.0 way.0 v (subst (λ k. slice_get path k ≡ Some way.0) same n.2) r.2) way.1))
+        (leads r.0 v way.0 r.1 r.2 way.1)
 
     -- ---- the walk behind it
 
@@ -233,8 +234,8 @@ module _ (s : SpecValue) where
         waiting i x h = let r = w.waiting i x h in (r.0, take_get b path i r.0 (taken i x h) r.1, r.2)
 
     close_least : ((x : ℕ) → Joins s x x → ⊥) → (t : Bool) → nat_lt 1 (length (drop b path)) ≡ t → IsLeast s (mark_all marks (drop b path)) (if t then least_def (length s.defs) first (drop b path) else first)
-    close_least no_loop true t = many_least (drop b path) marks first w.least (all_on_rings (let q : 1 < length (drop b path) = grind (arith, nat_tests) in q))
-    close_least no_loop false t = none_least (drop b path) marks first w.least (none_on_ring (let q : length (drop b path) ≤ 1 = grind (arith, nat_tests) in q) no_loop)
+    close_least no_loop true t = many_least (drop b path) marks first w.least (all_on_cycles (let q : 1 < length (drop b path) = grind (arith, nat_tests) in q))
+    close_least no_loop false t = none_least (drop b path) marks first w.least (none_on_cycle (let q : length (drop b path) ≤ 1 = grind (arith, nat_tests) in q) no_loop)
 
     pub closed_walk : ((x : ℕ) → Joins s x x → ⊥) → IsWalk s (mark_all marks (drop b path)) (take b path) front todo (if nat_lt 1 (length (drop b path)) then least_def (length s.defs) first (drop b path) else first)
     closed_walk no_loop = close_walk (if nat_lt 1 (length (drop b path)) then least_def (length s.defs) first (drop b path) else first) (close_least no_loop (nat_lt 1 (length (drop b path))) refl)

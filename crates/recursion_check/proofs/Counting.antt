@@ -18,7 +18,7 @@ use Rattle.stream_core.specs.WellTyped.{WellTyped, operand_types}
 use Rattle.stream_core.specs.Weights.{total, heavy, operands, IsGoodItem}
 use Rattle.stream_core.proofs.Roots.{items_good}
 use Rattle.stream_core.proofs.WholeWeight.{sum_is, stream_with, stream_tree, lib_tree}
-use Rattle.recursion_check.specs.Sizes.{form_words, streams_words, libs_words, externs_words}
+use Rattle.recursion_check.specs.Counted.{form_words, streams_words, libs_words, externs_words}
 
 length_replicate : (m w : ℕ) → length (replicate m w) ≡ m
 length_replicate zero w = refl

@@ -15,10 +15,10 @@ use Rattle.stream_core.specs.Ordered.{all_parts}
 use Rattle.stream_core.specs.Term.{tree, trees, tree_root}
 use Rattle.stream_core.specs.WellTyped.{bool, HasType, HasGoodNames, IsName, IsGoodDef, IsGoodTrigger, RootHasType, WellTyped, argument_types}
 use Rattle.stream_core.proofs.Premises.{no_types}
-use Rattle.recursion_check.proofs.Lists.{within_get}
 use Rattle.recursion_check.proofs.Places.{each_of}
-use Rattle.recursion_check.specs.Worked.{word8, doubled, bare_trigger}
-use Rattle.recursion_check.proofs.Each.{Each, each_at, all_by, once_by, up, up_rising, among}
+use Rattle.recursion_check.specs.TestSpecs.{word8, doubled, bare_trigger}
+use Rattle.recursion_check.proofs.Each.{Each, each_at, once_by, up, up_rising, among}
+use Rattle.sm_io.proofs.Elements.{get_within, all_by_place}
 
 module _ (d : ℕ) where
   abbrev s : SpecValue
@@ -29,14 +29,191 @@ module _ (d : ℕ) where
 
   each_typed : Each s.nodes Typed
   unfolding tree
-  each_typed = ((bool, (refl, refl)), ((word8, record { item = _; is = refl; type_is = refl }), ((word8, (refl, record { item = _; is = refl; type_is = refl }, record { item = _; is = refl; type_is = refl }, refl)), ((word8, record { item = _; is = refl; type_is = refl }), ((word8, (refl, record { item = _; is = refl; type_is = refl }, record { item = _; is = refl; type_is = refl }, refl)), ((word8, record { item = _; is = refl; type_is = refl }), ((word8, (refl, record { item = _; is = refl; type_is = refl }, record { item = _; is = refl; type_is = refl }, refl)), ((word8, record { item = _; is = refl; type_is = refl }), ((word8, (refl, record { item = _; is = refl; type_is = refl }, record { item = _; is = refl; type_is = refl }, refl)), ((word8, record { item = _; is = refl; type_is = refl }), ((word8, (refl, record { item = _; is = refl; type_is = refl }, record { item = _; is = refl; type_is = refl }, refl)), ((word8, record { item = _; is = refl; type_is = refl }), ((word8, (refl, record { item = _; is = refl; type_is = refl }, record { item = _; is = refl; type_is = refl }, refl)), ((word8, record { item = _; is = refl; type_is = refl }), ((word8, (refl, record { item = _; is = refl; type_is = refl }, record { item = _; is = refl; type_is = refl }, refl)), ((word8, record { item = _; is = refl; type_is = refl }), ((word8, (refl, record { item = _; is = refl; type_is = refl }, record { item = _; is = refl; type_is = refl }, refl)), ((word8, record { item = _; is = refl; type_is = refl }), ((word8, (refl, record { item = _; is = refl; type_is = refl }, record { item = _; is = refl; type_is = refl }, refl)), ((word8, record { item = _; is = refl; type_is = refl }), ((word8, (refl, record { item = _; is = refl; type_is = refl }, record { item = _; is = refl; type_is = refl }, refl)), ((word8, record { item = _; is = refl; type_is = refl }), ((word8, (refl, record { item = _; is = refl; type_is = refl }, record { item = _; is = refl; type_is = refl }, refl)), ((word8, record { item = _; is = refl; type_is = refl }), tt))))))))))))))))))))))))
+  each_typed = (
+    (bool, (refl, refl)),
+    (
+      (word8, record { item = _; is = refl; type_is = refl }),
+      (
+        (word8, (refl, record { item = _; is = refl; type_is = refl }, record { item = _; is = refl; type_is = refl }, refl)),
+        (
+          (word8, record { item = _; is = refl; type_is = refl }),
+          (
+            (word8, (refl, record { item = _; is = refl; type_is = refl }, record { item = _; is = refl; type_is = refl }, refl)),
+            (
+              (word8, record { item = _; is = refl; type_is = refl }),
+              (
+                (word8, (refl, record { item = _; is = refl; type_is = refl }, record { item = _; is = refl; type_is = refl }, refl)),
+                (
+                  (word8, record { item = _; is = refl; type_is = refl }),
+                  (
+                    (word8, (refl, record { item = _; is = refl; type_is = refl }, record { item = _; is = refl; type_is = refl }, refl)),
+                    (
+                      (word8, record { item = _; is = refl; type_is = refl }),
+                      (
+                        (word8, (refl, record { item = _; is = refl; type_is = refl }, record { item = _; is = refl; type_is = refl }, refl)),
+                        (
+                          (word8, record { item = _; is = refl; type_is = refl }),
+                          (
+                            (word8, (refl, record { item = _; is = refl; type_is = refl }, record { item = _; is = refl; type_is = refl }, refl)),
+                            (
+                              (word8, record { item = _; is = refl; type_is = refl }),
+                              (
+                                (word8, (refl, record { item = _; is = refl; type_is = refl }, record { item = _; is = refl; type_is = refl }, refl)),
+                                (
+                                  (word8, record { item = _; is = refl; type_is = refl }),
+                                  (
+                                    (word8, (refl, record { item = _; is = refl; type_is = refl }, record { item = _; is = refl; type_is = refl }, refl)),
+                                    (
+                                      (word8, record { item = _; is = refl; type_is = refl }),
+                                      (
+                                        (word8, (refl, record { item = _; is = refl; type_is = refl }, record { item = _; is = refl; type_is = refl }, refl)),
+                                        (
+                                          (word8, record { item = _; is = refl; type_is = refl }),
+                                          (
+                                            (word8, (refl, record { item = _; is = refl; type_is = refl }, record { item = _; is = refl; type_is = refl }, refl)),
+                                            (
+                                              (word8, record { item = _; is = refl; type_is = refl }),
+                                              (
+                                                (word8, (refl, record { item = _; is = refl; type_is = refl }, record { item = _; is = refl; type_is = refl }, refl)),
+                                                (
+                                                  (word8, record { item = _; is = refl; type_is = refl }),
+                                                  tt,
+                                                ),
+                                              ),
+                                            ),
+                                          ),
+                                        ),
+                                      ),
+                                    ),
+                                  ),
+                                ),
+                              ),
+                            ),
+                          ),
+                        ),
+                      ),
+                    ),
+                  ),
+                ),
+              ),
+            ),
+          ),
+        ),
+      ),
+    ),
+  )
 
   each_ordered : Each s.nodes (λ i n. AllByRecursion (λ j. j < i) (all_parts [] n))
-  each_ordered = (tt, (tt, ((omega arith, (omega arith, tt)), (tt, ((omega arith, (omega arith, tt)), (tt, ((omega arith, (omega arith, tt)), (tt, ((omega arith, (omega arith, tt)), (tt, ((omega arith, (omega arith, tt)), (tt, ((omega arith, (omega arith, tt)), (tt, ((omega arith, (omega arith, tt)), (tt, ((omega arith, (omega arith, tt)), (tt, ((omega arith, (omega arith, tt)), (tt, ((omega arith, (omega arith, tt)), (tt, ((omega arith, (omega arith, tt)), (tt, tt))))))))))))))))))))))))
+  each_ordered = (
+    tt,
+    (
+      tt,
+      (
+        (omega arith, (omega arith, tt)),
+        (
+          tt,
+          (
+            (omega arith, (omega arith, tt)),
+            (
+              tt,
+              (
+                (omega arith, (omega arith, tt)),
+                (
+                  tt,
+                  (
+                    (omega arith, (omega arith, tt)),
+                    (
+                      tt,
+                      (
+                        (omega arith, (omega arith, tt)),
+                        (
+                          tt,
+                          (
+                            (omega arith, (omega arith, tt)),
+                            (
+                              tt,
+                              (
+                                (omega arith, (omega arith, tt)),
+                                (
+                                  tt,
+                                  (
+                                    (omega arith, (omega arith, tt)),
+                                    (
+                                      tt,
+                                      (
+                                        (omega arith, (omega arith, tt)),
+                                        (
+                                          tt,
+                                          (
+                                            (omega arith, (omega arith, tt)),
+                                            (
+                                              tt,
+                                              (
+                                                (omega arith, (omega arith, tt)),
+                                                (
+                                                  tt,
+                                                  tt,
+                                                ),
+                                              ),
+                                            ),
+                                          ),
+                                        ),
+                                      ),
+                                    ),
+                                  ),
+                                ),
+                              ),
+                            ),
+                          ),
+                        ),
+                      ),
+                    ),
+                  ),
+                ),
+              ),
+            ),
+          ),
+        ),
+      ),
+    ),
+  )
 
   good_defs : AllByRecursion (IsGoodDef (trees s)) (trees s).defs
   unfolding tree
-  good_defs = (record { stands = tt; expr = (refl, record { item = _; is = refl; type_is = refl }, record { item = _; is = refl; type_is = refl }, refl) }, (record { stands = tt; expr = (refl, record { item = _; is = refl; type_is = refl }, record { item = _; is = refl; type_is = refl }, refl) }, (record { stands = tt; expr = (refl, record { item = _; is = refl; type_is = refl }, record { item = _; is = refl; type_is = refl }, refl) }, (record { stands = tt; expr = (refl, record { item = _; is = refl; type_is = refl }, record { item = _; is = refl; type_is = refl }, refl) }, (record { stands = tt; expr = (refl, record { item = _; is = refl; type_is = refl }, record { item = _; is = refl; type_is = refl }, refl) }, (record { stands = tt; expr = (refl, record { item = _; is = refl; type_is = refl }, record { item = _; is = refl; type_is = refl }, refl) }, (record { stands = tt; expr = (refl, record { item = _; is = refl; type_is = refl }, record { item = _; is = refl; type_is = refl }, refl) }, (record { stands = tt; expr = (refl, record { item = _; is = refl; type_is = refl }, record { item = _; is = refl; type_is = refl }, refl) }, (record { stands = tt; expr = (refl, record { item = _; is = refl; type_is = refl }, record { item = _; is = refl; type_is = refl }, refl) }, (record { stands = tt; expr = (refl, record { item = _; is = refl; type_is = refl }, record { item = _; is = refl; type_is = refl }, refl) }, (record { stands = tt; expr = (refl, record { item = _; is = refl; type_is = refl }, record { item = _; is = refl; type_is = refl }, refl) }, tt)))))))))))
+  good_defs = (
+    record { stands = tt; expr = (refl, record { item = _; is = refl; type_is = refl }, record { item = _; is = refl; type_is = refl }, refl) },
+    (
+      record { stands = tt; expr = (refl, record { item = _; is = refl; type_is = refl }, record { item = _; is = refl; type_is = refl }, refl) },
+      (
+        record { stands = tt; expr = (refl, record { item = _; is = refl; type_is = refl }, record { item = _; is = refl; type_is = refl }, refl) },
+        (
+          record { stands = tt; expr = (refl, record { item = _; is = refl; type_is = refl }, record { item = _; is = refl; type_is = refl }, refl) },
+          (
+            record { stands = tt; expr = (refl, record { item = _; is = refl; type_is = refl }, record { item = _; is = refl; type_is = refl }, refl) },
+            (
+              record { stands = tt; expr = (refl, record { item = _; is = refl; type_is = refl }, record { item = _; is = refl; type_is = refl }, refl) },
+              (
+                record { stands = tt; expr = (refl, record { item = _; is = refl; type_is = refl }, record { item = _; is = refl; type_is = refl }, refl) },
+                (
+                  record { stands = tt; expr = (refl, record { item = _; is = refl; type_is = refl }, record { item = _; is = refl; type_is = refl }, refl) },
+                  (
+                    record { stands = tt; expr = (refl, record { item = _; is = refl; type_is = refl }, record { item = _; is = refl; type_is = refl }, refl) },
+                    (
+                      record { stands = tt; expr = (refl, record { item = _; is = refl; type_is = refl }, record { item = _; is = refl; type_is = refl }, refl) },
+                      (
+                        record { stands = tt; expr = (refl, record { item = _; is = refl; type_is = refl }, record { item = _; is = refl; type_is = refl }, refl) },
+                        tt,
+                      ),
+                    ),
+                  ),
+                ),
+              ),
+            ),
+          ),
+        ),
+      ),
+    ),
+  )
 
   abbrev letters : List ℕ
   letters = up 97 12
@@ -59,10 +236,10 @@ module _ (d : ℕ) where
   good_names = record {
     spec = refl;
     types = All-nil _;
-    externs = all_by (λ (x : ExternItem). IsName x.name) s.externs (refl, tt);
+    externs = all_by_place (λ (x : ExternItem). IsName x.name) s.externs (refl, tt);
     streams = All-nil _;
-    defs = all_by (λ (x : DefItem). IsName x.name) s.defs (refl, (refl, (refl, (refl, (refl, (refl, (refl, (refl, (refl, (refl, (refl, tt)))))))))));
-    triggers = all_by (λ (x : TriggerItem). IsName x.name) s.triggers (refl, tt);
+    defs = all_by_place (λ (x : DefItem). IsName x.name) s.defs (refl, (refl, (refl, (refl, (refl, (refl, (refl, (refl, (refl, (refl, (refl, tt)))))))))));
+    triggers = all_by_place (λ (x : TriggerItem). IsName x.name) s.triggers (refl, tt);
     observers = All-nil _;
     once = once_by letters (up_rising 12 97);
     apart = λ i j x e f. let h = each_of (λ k. k < 116) letters 116 below_t (among letters j 116 (f ∙ ap Some (only i x e).0)) in absurd (omega (arith, h));
@@ -74,11 +251,11 @@ module _ (d : ℕ) where
   doubled_typed arg = record {
     types = no_types;
     ordered = record { below = each_at s.nodes (λ i n. AllByRecursion (λ j. j < i) (all_parts [] n)) each_ordered };
-    nodes = λ i h. let x = within_get s.nodes i h in each_at s.nodes Typed each_typed i x.0 x.1;
-    externs = all_by (λ (x : ExternItem). Stands [] x.ty) s.externs (tt, tt);
+    nodes = λ i h. let x = get_within s.nodes i h in each_at s.nodes Typed each_typed i x.0 x.1;
+    externs = all_by_place (λ (x : ExternItem). Stands [] x.ty) s.externs (tt, tt);
     streams = All-nil _;
-    defs = all_by (IsGoodDef (trees s)) (trees s).defs good_defs;
-    triggers = all_by (IsGoodTrigger (trees s)) (trees s).triggers (record { guard = (refl, refl); truth = refl; args = all_by (RootHasType (trees s)) (tree_root (tree s.nodes []) (record { expr = 2 * d + 1; ty = word8; at = 200 }) ∷ []) (arg, tt); few = omega arith }, tt);
+    defs = all_by_place (IsGoodDef (trees s)) (trees s).defs good_defs;
+    triggers = all_by_place (IsGoodTrigger (trees s)) (trees s).triggers (record { guard = (refl, refl); truth = refl; args = all_by_place (RootHasType (trees s)) (tree_root (tree s.nodes []) (record { expr = 2 * d + 1; ty = word8; at = 200 }) ∷ []) (arg, tt); few = omega arith }, tt);
     observers = All-nil _;
     libs = All-nil _;
     names = good_names;

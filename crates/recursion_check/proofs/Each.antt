@@ -14,11 +14,6 @@ each_at [] P h i x e = absurd (cc)
 each_at (y ∷ ys) P h zero x e = subst (P 0) (let q : y ≡ x = cc in q) h.0
 each_at (y ∷ ys) P h (suc i) x e = each_at ys (λ i. P (suc i)) h.1 i x e
 
-pub all_by : {A : Type 0} (P : A → Type 0) (xs : List A) → AllByRecursion P xs → All P xs
-all_by P [] h k d b = absurd (omega (arith, b))
-all_by P (x ∷ xs) h zero d b = h.0
-all_by P (x ∷ xs) h (suc k) d b = all_by P xs h.1 k d (omega (arith, b))
-
 pub all_copies : {A B : Type 0} (P : B → Type 0) (f : A → B) (x : A) → P (f x) → (n : ℕ) → All P (map f (replicate n x))
 all_copies P f x h zero k d b = absurd (omega (arith, b))
 all_copies P f x h (suc n) zero d b = h

@@ -4,15 +4,15 @@ use Rattle.std.specs.Prelude.{slice_get, MatchOption}
 use Rattle.std.proofs.lemmas.List.{length-map}
 use Rattle.stream_core.specs.Value.{SpecValue}
 use Rattle.stream_core.specs.Term.{tree, tree_def, defs_of}
-use Rattle.stream_core.specs.Soundness.{HasNoRing}
+use Rattle.stream_core.specs.Soundness.{HasNoCycle}
 use Rattle.stream_core.specs.WellTyped.{WellTyped}
 use Rattle.recursion_check.specs.declared.walk.Mark.{Mark}
 use Rattle.recursion_check.specs.declared.walk.Mark.TheVariants as mark
 use Rattle.recursion_check.specs.declared.edges.Edge.{Edge}
-use Rattle.recursion_check.specs.Graph.{IsFirstOnRing, places}
+use Rattle.recursion_check.specs.Graph.{IsFirstOnCycle, places}
 use Rattle.recursion_check.specs.Walked.{IsLeast, IsWalk}
-use Rattle.recursion_check.proofs.Lists.{within_get}
-use Rattle.recursion_check.proofs.Places.{ring_forth, ring_there, ring_back}
+use Rattle.recursion_check.proofs.Places.{cycle_forth, cycle_there, cycle_back}
+use Rattle.sm_io.proofs.Elements.{get_within}
 
 replicate_length : (n : ℕ) (m : Mark) → length (replicate n m) ≡ n
 replicate_length zero m = refl
@@ -48,12 +48,12 @@ start_walk s n e = record {
   rising = tt;
   waiting = λ i x h. absurd h;
   ordered = tt;
-  least = record { ring = λ f q. absurd (none_found f q); below = λ d b q r. absurd (not_done (all_new n d mark.Done q)) };
+  least = record { on_cycle = λ f q. absurd (none_found f q); below = λ d b q r. absurd (not_done (all_new n d mark.Done q)) };
 }
 
 -- a place that was entered is done where no place is open
 pub all_done : (s : SpecValue) (marks : List Mark) (starts : List ℕ) (todo : List Edge) (first : Option ℕ) → IsWalk s marks [] starts todo first → (v : ℕ) → v < places s → (slice_get marks v ≡ Some mark.New → ⊥) → slice_get marks v ≡ Some mark.Done
-all_done s marks starts todo first w v b old = let size = w.size in let m = within_get marks v (omega (arith, b, size)) in by m.0 m.1
+all_done s marks starts todo first w v b old = let size = w.size in let m = get_within marks v (omega (arith, b, size)) in by m.0 m.1
   where
     by : (m : Mark) → slice_get marks v ≡ Some m → slice_get marks v ≡ Some mark.Done
     by mark.New e = absurd (old e)
@@ -64,16 +64,16 @@ module _ (s : SpecValue) (w : WellTyped s) where
   defs_length : length (defs_of s) ≡ length s.defs
   defs_length = length-map s.defs (tree_def (tree s.nodes s.libs))
 
-  pub found_first : (marks : List Mark) (first : Option ℕ) → IsLeast s marks first → ((d : ℕ) → d < length s.defs → slice_get marks d ≡ Some mark.Done) → MatchOption first (HasNoRing (defs_of s)) (λ d. IsFirstOnRing (defs_of s) d)
-  found_first marks None l all = λ d ring. let b = ring_there s w d ring in none_found _ (l.below d b (all d b) (ring_forth s w d ring)).1
+  pub found_first : (marks : List Mark) (first : Option ℕ) → IsLeast s marks first → ((d : ℕ) → d < length s.defs → slice_get marks d ≡ Some mark.Done) → MatchOption first (HasNoCycle (defs_of s)) (λ d. IsFirstOnCycle (defs_of s) d)
+  found_first marks None l all = λ d way. let b = cycle_there s w d way in none_found _ (l.below d b (all d b) (cycle_forth s w d way)).1
   found_first marks (Some f) l all =
-      let r = l.ring f refl in
+      let r = l.on_cycle f refl in
       let n = defs_length in
       let b = r.0 in
       record {
         there = omega (arith, b, n);
-        ring = ring_back s w f r.0 r.1;
-        first = λ c ring. let b = ring_there s w c ring in let q = l.below c b (all c b) (ring_forth s w c ring) in at_most f c q.0 q.1 q.2;
+        on_cycle = cycle_back s w f r.0 r.1;
+        first = λ c way. let b = cycle_there s w c way in let q = l.below c b (all c b) (cycle_forth s w c way) in at_most f c q.0 q.1 q.2;
       }
     where
       at_most : (f c g : ℕ) → Some f ≡ Some g → g ≤ c → f ≤ c

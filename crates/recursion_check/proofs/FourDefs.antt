@@ -10,8 +10,9 @@ use Rattle.stream_core.specs.Ordered.{all_parts}
 use Rattle.stream_core.specs.Term.{tree, trees, tree_def}
 use Rattle.stream_core.specs.WellTyped.{bool, HasType, HasGoodNames, IsName, IsGoodDef, WellTyped}
 use Rattle.stream_core.proofs.Premises.{no_types}
-use Rattle.recursion_check.specs.Worked.{five_nodes, bool_def, four_defs}
-use Rattle.recursion_check.proofs.Each.{each_at, all_by, once_by, up, up_rising}
+use Rattle.recursion_check.specs.TestSpecs.{five_nodes, bool_def, four_defs}
+use Rattle.recursion_check.proofs.Each.{each_at, once_by, up, up_rising}
+use Rattle.sm_io.proofs.Elements.{all_by_place}
 
 module _ (a b c d : ℕ) (pa : a ≤ 4) (pb : b ≤ 4) (pc : c ≤ 4) (pd : d ≤ 4) where
   abbrev s : SpecValue
@@ -36,7 +37,7 @@ module _ (a b c d : ℕ) (pa : a ≤ 4) (pb : b ≤ 4) (pc : c ≤ 4) (pd : d �
     types = All-nil _;
     externs = All-nil _;
     streams = All-nil _;
-    defs = all_by (λ (x : DefItem). IsName x.name) s.defs (refl, (refl, (refl, (refl, tt))));
+    defs = all_by_place (λ (x : DefItem). IsName x.name) s.defs (refl, (refl, (refl, (refl, tt))));
     triggers = All-nil _;
     observers = All-nil _;
     once = once_by (up 97 4) (up_rising 4 97);
@@ -54,7 +55,7 @@ module _ (a b c d : ℕ) (pa : a ≤ 4) (pb : b ≤ 4) (pc : c ≤ 4) (pd : d �
     nodes = λ i h. (bool, typed i h);
     externs = All-nil _;
     streams = All-nil _;
-    defs = all_by (IsGoodDef (trees s)) (trees s).defs (good a pa 97 8, (good b pb 98 23, (good c pc 99 38, (good d pd 100 53, tt))));
+    defs = all_by_place (IsGoodDef (trees s)) (trees s).defs (good a pa 97 8, (good b pb 98 23, (good c pc 99 38, (good d pd 100 53, tt))));
     triggers = All-nil _;
     observers = All-nil _;
     libs = All-nil _;

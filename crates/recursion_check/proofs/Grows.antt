@@ -5,7 +5,7 @@ use Rattle.stream_core.specs.declared.node.Node.TheVariants as node
 use Rattle.stream_core.specs.declared.spec.Item.TheVariants as item
 use Rattle.stream_core.specs.declared.spec.TriggerItem.{TriggerItem}
 use Rattle.stream_core.specs.Stored.{with_item}
-use Rattle.recursion_check.specs.Worked.{yes_node, bare_trigger, many, sum_node, sum_nodes, sum_def, sum_defs, sums, with_node}
+use Rattle.recursion_check.specs.TestSpecs.{yes_node, bare_trigger, many, sum_node, sum_nodes, sum_def, sum_defs, sums, with_node}
 
 copies_push : {A : Type 0} (n : ℕ) (x : A) → replicate n x ++ x ∷ [] ≡ replicate (suc n) x
 copies_push zero x = refl

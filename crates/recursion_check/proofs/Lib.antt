@@ -1,4 +1,4 @@
-pub mod Lists
+pub mod ListElements
 pub mod Walking
 pub mod Closing
 pub mod Places

@@ -10,7 +10,7 @@ use Rattle.stream_core.specs.Ordered.{all_parts}
 use Rattle.stream_core.specs.Term.{TreeTrigger, tree, trees, tree_root}
 use Rattle.stream_core.specs.WellTyped.{bool, HasType, HasGoodNames, IsName, IsGoodTrigger, WellTyped, argument_types}
 use Rattle.stream_core.proofs.Premises.{no_types}
-use Rattle.recursion_check.specs.Worked.{yes_node, bare_trigger, many}
+use Rattle.recursion_check.specs.TestSpecs.{yes_node, bare_trigger, many}
 use Rattle.recursion_check.proofs.Each.{all_copies, copies_all, get_copies, each_at}
 
 module _ (n : ℕ) where

@@ -1,4 +1,4 @@
--- Where the places of the graph lead, and that its rings are those of the defs.
+-- Where the places of the graph lead, and that its cycles are those of the defs.
 use Rattle.std.proofs.Common.{◌≡◌, ◌⊎◌, ⊎_elim, inl, inr, ℕ, zero, suc, ◌+◌, ◌-◌, ◌^◌, ◌<◌, ◌≤◌, List, [], ◌∷◌, ◌++◌, length, map, Option, Some, None, refl, sym, ap, ◌∙◌, subst, arith}
 use Rattle.std.specs.Prelude.{slice_get, slice_index_or, Contains}
 use Rattle.std.specs.List.{AllByRecursion, flat_map}
@@ -13,13 +13,14 @@ use Rattle.stream_core.specs.declared.spec.LibItem.{LibItem}
 use Rattle.stream_core.specs.Value.{SpecValue}
 use Rattle.stream_core.specs.Ordered.{all_parts}
 use Rattle.stream_core.specs.Term.{Term, TreeDef, build, build_at, def, terms_of, lib_of, tree, tree_def, defs_of}
-use Rattle.stream_core.specs.Limits.{mentions, all_mentions, Mentions, Leads, OnRing}
+use Rattle.stream_core.specs.Limits.{mentions, all_mentions, Mentions, Leads, OnCycle}
 use Rattle.stream_core.specs.WellTyped.{WellTyped}
 use Rattle.stream_core.proofs.Trees.{tree_is, tree_of}
-use Rattle.stream_core.proofs.Rings.{exprs_there, defs_there}
-use Rattle.recursion_check.specs.Graph.{Has, Joins, Steps, Reaches, LiesOnRing, next, node_next, def_next, places}
+use Rattle.stream_core.proofs.Cycles.{exprs_there, defs_there}
+use Rattle.recursion_check.specs.Graph.{Has, Joins, Steps, Reaches, LiesOnCycle, next, node_next, def_next, places}
 use Rattle.recursion_check.proofs.Walking.{way_on, step_then}
-use Rattle.recursion_check.proofs.Lists.{has_append, has_left, has_right, within_get}
+use Rattle.recursion_check.proofs.ListElements.{has_append, has_left, has_right}
+use Rattle.sm_io.proofs.Elements.{get_within}
 
 -- ---- lists
 
@@ -158,7 +159,7 @@ module _ (s : SpecValue) where
     way : (v x : ℕ) → Joins s v x → Way v x
     way v x h =
         ⊎_elim
-        (λ less. let y = within_get s.defs v less in inl (y.0, y.1, sole (D + y.0.expr) x (subst (λ xs. Has xs x) (next_def v y.0 y.1) h)))
+        (λ less. let y = get_within s.defs v less in inl (y.0, y.1, sole (D + y.0.expr) x (subst (λ xs. Has xs x) (next_def v y.0 y.1) h)))
         (λ ge. inr (v - D, omega (arith, ge), by_node (v - D) x (slice_get s.nodes (v - D)) refl (subst (λ xs. Has xs x) (next_node v ge) h)))
         (cases_lt v D)
 
@@ -235,13 +236,13 @@ module _ (s : SpecValue) where
         let q = leads_way n l.0 c l.2 in
         (p.0, p.1, way_on s p.0 l.0 c p.2 (step_then s l.0 q.0 c q.1 q.2))
 
-    pub ring_forth : (d : ℕ) → OnRing (defs_of s) d → LiesOnRing s d
-    ring_forth d ring = leads_way ring.0 d d ring.1
+    pub cycle_forth : (d : ℕ) → OnCycle (defs_of s) d → LiesOnCycle s d
+    cycle_forth d way = leads_way way.0 d d way.1
 
-    pub ring_there : (d : ℕ) → OnRing (defs_of s) d → d < D
-    ring_there d ring =
-        let r = ring_forth d ring in
-        first ring.0 ring.1
+    pub cycle_there : (d : ℕ) → OnCycle (defs_of s) d → d < D
+    cycle_there d way =
+        let r = cycle_forth d way in
+        first way.0 way.1
       where
         within : (c : ℕ) → Mentions (defs_of s) d c → d < D
         within c m = let b = slice_get_within (defs_of s) d m.from m.is in let l : length (defs_of s) ≡ length s.defs = length-map s.defs (tree_def T) in omega (arith, b, l)
@@ -294,8 +295,8 @@ module _ (s : SpecValue) where
     backs zero c b = record { of_def = λ v h e. inl e; of_node = λ i e. absurd (omega (arith, e, b)) }
     backs (suc n) c b = let ih = backs n c b in record { of_def = λ v h st. inr (led_on n c ih v h st); of_node = λ i st. node_on n c ih i st }
 
-    pub ring_back : (d : ℕ) → d < D → LiesOnRing s d → OnRing (defs_of s) d
-    ring_back d b ring = led_on ring.2.0 d (backs ring.2.0 d b) d b (ring.0, ring.1, ring.2.1)
+    pub cycle_back : (d : ℕ) → d < D → LiesOnCycle s d → OnCycle (defs_of s) d
+    cycle_back d b way = led_on way.2.0 d (backs way.2.0 d b) d b (way.0, way.1, way.2.1)
 
     -- ---- numbers fit
 

@@ -10,7 +10,7 @@ use Rattle.recursion_check.specs.declared.walk.Mark.TheVariants as mark
 use Rattle.recursion_check.specs.declared.edges.Edge.{Edge}
 use Rattle.recursion_check.specs.Graph.{Has}
 use Rattle.recursion_check.specs.Walked.{HasEdge, NotFalling, IsWalk, IsReached, StaysOld, edge_from}
-use Rattle.recursion_check.proofs.Lists.{edge_push, edge_pushed, ordered_last, split_last, empty_last, set_same, set_other}
+use Rattle.recursion_check.proofs.ListElements.{edge_push, edge_pushed, ordered_last, split_last, empty_last, set_same, set_other}
 use Rattle.recursion_check.proofs.Walking.{way_on, step_then}
 
 -- ---- the last step

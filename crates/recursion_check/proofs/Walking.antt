@@ -10,7 +10,8 @@ use Rattle.recursion_check.specs.declared.walk.Mark.TheVariants as mark
 use Rattle.recursion_check.specs.declared.edges.Edge.{Edge}
 use Rattle.recursion_check.specs.Graph.{Has, Joins, Steps, Reaches, next}
 use Rattle.recursion_check.specs.Walked.{HasEdge, edge, Rising, Near, IsOpenNear, IsWalk, IsReached, IsCut}
-use Rattle.recursion_check.proofs.Lists.{has_left, has_push, has_pushed, edge_append, edge_left, edge_right, edge_push, edge_pushed, edges_of, edges_to, rising_push, ordered_append, ordered_edges, ordered_front, get_push, get_front, get_last, within_get, set_same, set_other, length_set}
+use Rattle.recursion_check.proofs.ListElements.{has_left, has_push, has_pushed, edge_append, edge_left, edge_right, edge_push, edge_pushed, edges_of, edges_to, rising_push, ordered_append, ordered_edges, ordered_front, get_push, get_last, set_same, set_other, length_set}
+use Rattle.sm_io.proofs.Elements.{get_front, get_within}
 
 -- the last of a list that rises
 pub greatest : (xs : List ℕ) (x : ℕ) → Has xs x → Rising xs → (b : ℕ) × Has xs b × ((a : ℕ) → Has xs a → a ≤ b)
@@ -124,7 +125,7 @@ module _ (s : SpecValue) where
     rising = rising_push starts (length path) w.rising (λ a h. w.within a h);
     waiting = waiting;
     ordered = ordered_append todo (map (edge (length path)) (next s v)) w.ordered (ordered_edges (length path) (next s v)) in_order;
-    least = record { ring = w.least.ring; below = λ d b e lr. w.least.below d b (old_done d e) lr };
+    least = record { on_cycle = w.least.on_cycle; below = λ d b e lr. w.least.below d b (old_done d e) lr };
   }
     where
       here : slice_get (set marks v (mark.Open (length path))) v ≡ Some (mark.Open (length path))
@@ -181,7 +182,7 @@ module _ (s : SpecValue) where
       begins : (i a : ℕ) → slice_get (path ++ v ∷ []) i ≡ Some a → Has (starts ++ length path ∷ []) 0
       begins i a p =
           ⊎_elim
-          (λ less. let x = within_get path 0 less in has_left starts (length path ∷ []) 0 (w.begins 0 x.0 x.1))
+          (λ less. let x = get_within path 0 less in has_left starts (length path ∷ []) 0 (w.begins 0 x.0 x.1))
           (λ le. let e : length path ≡ 0 = omega (arith, le) in subst (λ k. Has (starts ++ length path ∷ []) k) e (has_push starts (length path)))
           (cases_lt 0 (length path))
 

@@ -7,7 +7,7 @@ use Rattle.stream_core.specs.declared.spec.DefItem.{DefItem}
 use Rattle.stream_core.specs.Value.{SpecValue}
 use Rattle.stream_core.specs.Ordered.{all_parts}
 use Rattle.stream_core.specs.Term.{TreeDef}
-use Rattle.stream_core.specs.Limits.{OnRing}
+use Rattle.stream_core.specs.Limits.{OnCycle}
 
 abbrev pub Has : List ℕ → ℕ → Type 0
 Has [] b = ⊥
@@ -42,11 +42,11 @@ abbrev pub Reaches : SpecValue → ℕ → ℕ → Type 0
 Reaches s a b = (n : ℕ) × Steps s n a b
 
 -- place a leads back to itself
-abbrev pub LiesOnRing : SpecValue → ℕ → Type 0
-LiesOnRing s a = (c : ℕ) × Joins s a c × Reaches s c a
+abbrev pub LiesOnCycle : SpecValue → ℕ → Type 0
+LiesOnCycle s a = (c : ℕ) × Joins s a c × Reaches s c a
 
--- the first def that lies on a ring
-pub record IsFirstOnRing (defs : List TreeDef) (d : ℕ) : Type 0 where
+-- the first def that lies on a cycle
+pub record IsFirstOnCycle (defs : List TreeDef) (d : ℕ) : Type 0 where
   pub there : d < length defs
-  pub ring : OnRing defs d
-  pub first : (c : ℕ) → OnRing defs c → d ≤ c
+  pub on_cycle : OnCycle defs d
+  pub first : (c : ℕ) → OnCycle defs c → d ≤ c

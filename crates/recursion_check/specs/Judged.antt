@@ -1,7 +1,8 @@
 -- What `sound` answers.
-use Rattle.std.specs.Prelude.{◌≡◌, Option, Some, None, Result, Ok, Err}
+use Rattle.std.specs.Prelude.{◌≡◌, ℕ, List, Option, Some, None, Result, Ok, Err}
 use Rattle.stream_core.specs.Value.{SpecValue}
-use Rattle.stream_core.specs.Meaning.{IsFirstFault}
+use Rattle.stream_core.specs.Eval.{Table}
+use Rattle.stream_core.specs.Meaning.{Clean, IsFirstFault, Meets, table}
 use Rattle.stream_core.specs.Soundness.{cycle, too_many_decls, too_many_words, root_too_heavy, spec_too_heavy}
 use Rattle.stream_core.specs.WellTyped.{WellTyped}
 use Rattle.recursion_check.specs.declared.fault.SoundFault.{SoundFault}
@@ -24,6 +25,10 @@ IsFault s (Some f) = Blames s f
 pub record IsSound (s : SpecValue) : Type 0 where
   pub typed : WellTyped s
   pub sound : IsFirstFault s None
+
+-- over a clean history, lists that meet the equations of the streams are the table
+abbrev pub HasOneTable : SpecValue → Type 0
+HasOneTable s = (h : List (List ℕ)) (n : ℕ) (lists : Table) → Clean s h n → Meets s h n lists → table s h n ≡ Ok lists
 
 -- the specification comes back, sound or with its first fault
 abbrev pub Judges : SpecValue → Result SpecValue (SpecValue × SoundFault) → Type 0

@@ -1,6 +1,6 @@
 pub mod Graph
 pub mod Walked
-pub mod Sizes
+pub mod Counted
 pub mod Loads
 pub mod Judged
-pub mod Worked
+pub mod TestSpecs

@@ -7,7 +7,7 @@ use Rattle.recursion_check.specs.declared.walk.Mark.{Mark}
 use Rattle.recursion_check.specs.declared.walk.Mark.TheVariants as mark
 use Rattle.recursion_check.specs.declared.edges.Edge.{Edge}
 use Rattle.recursion_check.specs.declared.walk.Walk.{Walk}
-use Rattle.recursion_check.specs.Graph.{Has, Joins, Reaches, LiesOnRing, places}
+use Rattle.recursion_check.specs.Graph.{Has, Joins, Reaches, LiesOnCycle, places}
 
 -- from the open place of this number on the path to this place
 abbrev pub HasEdge : List Edge → ℕ → ℕ → Type 0
@@ -33,10 +33,10 @@ Near starts i j = (b : ℕ) → Has starts b → b ≤ i → b ≤ j
 abbrev pub IsOpenNear : List Mark → List ℕ → ℕ → ℕ → Type 0
 IsOpenNear marks starts i w = (j : ℕ) × (slice_get marks w ≡ Some (mark.Open j)) × Near starts i j
 
--- the first def among the places that are done which lies on a ring, or none
+-- the first def among the places that are done which lies on a cycle, or none
 pub record IsLeast (s : SpecValue) (marks : List Mark) (first : Option ℕ) : Type 0 where
-  pub ring : (f : ℕ) → first ≡ Some f → (f < length s.defs) × LiesOnRing s f
-  pub below : (d : ℕ) → d < length s.defs → slice_get marks d ≡ Some mark.Done → LiesOnRing s d → (f : ℕ) × (first ≡ Some f) × (f ≤ d)
+  pub on_cycle : (f : ℕ) → first ≡ Some f → (f < length s.defs) × LiesOnCycle s f
+  pub below : (d : ℕ) → d < length s.defs → slice_get marks d ≡ Some mark.Done → LiesOnCycle s d → (f : ℕ) × (first ≡ Some f) × (f ≤ d)
 
 pub record IsWalk (s : SpecValue) (marks : List Mark) (path starts : List ℕ) (todo : List Edge) (first : Option ℕ) : Type 0 where
   pub size : length marks ≡ places s

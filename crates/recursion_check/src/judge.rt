@@ -1,23 +1,26 @@
 // The check.
 ghost use Rattle.std.specs.Prelude.{◌≡◌, Option, Some, None, IfOk, MatchOption};
-ghost use Rattle.stream_core.specs.Soundness.{HasNoRing, CycleAt};
+ghost use Rattle.stream_core.specs.Soundness.{HasNoCycle, CycleAt};
 ghost use Rattle.stream_core.specs.Term.{defs_of};
 ghost use Rattle.stream_core.specs.WellTyped.{WellTyped};
-ghost use Rattle.recursion_check.specs.Judged.{IsFault, Judges};
+ghost use Rattle.recursion_check.specs.Judged.{HasOneTable, IsFault, Judges};
 
 use crate::accepted::Sound;
 use crate::fault::SoundFault;
 use crate::roots::heavy_root;
 use crate::sizes::{declarations, words};
-use crate::walk::first_on_ring;
+use crate::walk::first_on_cycle;
 use std::alloc::{AllocError, Global};
-use stream_core::Spec;
+use stream_core::{Spec, equations_have_one_solution};
 
-/// Checks a well typed specification, or hands it back with its first fault.
+/// Checks a well typed specification, or hands it back with its first fault. Over a clean history its streams' equations
+/// have no other solution than its table.
 pub fn sound(alloc: Global, spec: Spec) -> Result<Sound, (Spec, SoundFault)>
     requires { WellTyped spec }
-    ensures { Judges spec result }
+    ensures judged { Judges spec result }
+    ensures one_table { HasOneTable spec }
 {
+    equations_have_one_solution();
     match first_fault(alloc, &spec) {
         None => Ok(Sound::of(spec)),
         Some(fault) => Err((spec, fault)),
@@ -35,21 +38,21 @@ fn first_fault(alloc: Global, spec: &Spec) -> Option<SoundFault>
     }
 }
 
-// The place of the first def that lies on a ring.
+// The place of the first def that lies on a cycle.
 fn first_cycle(alloc: Global, spec: &Spec) -> Result<Option<u64>, AllocError>
     requires { WellTyped spec.now }
-    ensures { IfOk result (λ first. MatchOption first (HasNoRing (defs_of spec.now)) (λ at. CycleAt (defs_of spec.now) at)) }
+    ensures { IfOk result (λ first. MatchOption first (HasNoCycle (defs_of spec.now)) (λ at. CycleAt (defs_of spec.now) at)) }
 {
-    Ok(match first_on_ring(alloc, spec)? {
+    Ok(match first_on_cycle(alloc, spec)? {
         Some(d) => Some(spec.defs()[d].at),
         None => None,
     })
 }
 
-// The first limit that a specification without rings exceeds.
+// The first limit that a specification without cycles exceeds.
 fn first_excess(spec: &Spec) -> Option<SoundFault>
     requires typed { WellTyped spec.now }
-    requires no_ring { HasNoRing (defs_of spec.now) }
+    requires no_cycle { HasNoCycle (defs_of spec.now) }
     ensures { IsFault spec.now result }
 {
     if declarations(spec) > 4_096 {

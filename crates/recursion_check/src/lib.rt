@@ -1,6 +1,7 @@
 //! From a well typed specification to a sound one.
-//! In: a typed specification. Out: the same one, known to have no ring of defs and to keep the limits; or its first fault.
-//! The faults are defined in specs/Soundness.antt of `stream_core`.
+//! In: a typed specification. Out: the same one, known to have no cycle of defs and to keep the limits, or its first
+//! fault.
+//! The faults are defined in specs/Soundness.antt of `stream_core`; the main call is `sound`.
 #![tactic(auto)]
 
 mod accepted;

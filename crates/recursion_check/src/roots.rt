@@ -1,6 +1,6 @@
 // Roots that are too heavy.
 ghost use Rattle.std.specs.Prelude.{◌≡◌, ℕ, ◌<◌, ◌≤◌, length, map, min, slice_get, Some, None, IfSome, All, nat_lt, if◌then◌else◌, drop};
-ghost use Rattle.stream_core.specs.Soundness.{HasNoRing, heavy_root};
+ghost use Rattle.stream_core.specs.Soundness.{HasNoCycle, heavy_root};
 ghost use Rattle.stream_core.specs.Term.{defs_of, trees};
 ghost use Rattle.stream_core.specs.WellTyped.{WellTyped};
 ghost use Rattle.stream_core.specs.Weights.{IsTriggerThere, heavy, heaviest_buffer};
@@ -18,7 +18,7 @@ const MOST: u64 = 2_048;
 /// The place of the first root above 2,048.
 pub(crate) fn heavy_root(spec: &Spec) -> Option<u64>
     requires typed { WellTyped spec.now }
-    requires no_ring { HasNoRing (defs_of spec.now) }
+    requires no_cycle { HasNoCycle (defs_of spec.now) }
     ensures { result ≡ heavy_root (trees spec.now) }
 {
     let mut first = with_triggers(spec, spec.triggers(), None);
@@ -33,7 +33,7 @@ pub(crate) fn heavy_root(spec: &Spec) -> Option<u64>
 // The lesser place of the first heavy root so far and one more root.
 fn with_root(spec: &Spec, first: Option<u64>, expr: NodeId, at: u64) -> Option<u64>
     requires typed { WellTyped spec.now }
-    requires no_ring { HasNoRing (defs_of spec.now) }
+    requires no_cycle { HasNoCycle (defs_of spec.now) }
     requires there { expr < length spec.now.nodes }
     ensures { result ≡ (if nat_lt 2048 (heavy spec.now expr) then lesser first at else first) }
 {
@@ -48,7 +48,7 @@ fn with_root(spec: &Spec, first: Option<u64>, expr: NodeId, at: u64) -> Option<u
 
 fn with_roots(spec: &Spec, roots: &[Root], first: Option<u64>) -> Option<u64>
     requires typed { WellTyped spec.now }
-    requires no_ring { HasNoRing (defs_of spec.now) }
+    requires no_cycle { HasNoCycle (defs_of spec.now) }
     requires there { All (λ (r : Root). r.expr < length spec.now.nodes) roots.now }
     ensures { result ≡ least_heavy first (roots_of spec.now roots.now) }
 {
@@ -61,7 +61,7 @@ fn with_roots(spec: &Spec, roots: &[Root], first: Option<u64>) -> Option<u64>
 
 fn with_triggers(spec: &Spec, triggers: &[TriggerItem], first: Option<u64>) -> Option<u64>
     requires typed { WellTyped spec.now }
-    requires no_ring { HasNoRing (defs_of spec.now) }
+    requires no_cycle { HasNoCycle (defs_of spec.now) }
     requires there { All (IsTriggerThere spec.now) triggers.now }
     ensures { result ≡ least_heavy first (triggers_of spec.now triggers.now) }
 {
@@ -75,7 +75,7 @@ fn with_triggers(spec: &Spec, triggers: &[TriggerItem], first: Option<u64>) -> O
 
 fn with_observers(spec: &Spec, observers: &[ObserverItem], first: Option<u64>) -> Option<u64>
     requires typed { WellTyped spec.now }
-    requires no_ring { HasNoRing (defs_of spec.now) }
+    requires no_cycle { HasNoCycle (defs_of spec.now) }
     requires there { All (λ (x : ObserverItem). x.root.expr < length spec.now.nodes) observers.now }
     ensures { result ≡ least_heavy first (observers_of spec.now observers.now) }
 {
@@ -88,7 +88,7 @@ fn with_observers(spec: &Spec, observers: &[ObserverItem], first: Option<u64>) -
 
 fn with_streams(spec: &Spec, streams: &[StreamItem], first: Option<u64>) -> Option<u64>
     requires typed { WellTyped spec.now }
-    requires no_ring { HasNoRing (defs_of spec.now) }
+    requires no_cycle { HasNoCycle (defs_of spec.now) }
     requires there { All (λ (x : StreamItem). x.expr < length spec.now.nodes) streams.now }
     ensures { result ≡ least_heavy first (streams_of spec.now streams.now) }
 {
@@ -102,7 +102,7 @@ fn with_streams(spec: &Spec, streams: &[StreamItem], first: Option<u64>) -> Opti
 // The place of the first library form that has a heavy buffer.
 fn heavy_form(spec: &Spec) -> Option<u64>
     requires typed { WellTyped spec.now }
-    requires no_ring { HasNoRing (defs_of spec.now) }
+    requires no_cycle { HasNoCycle (defs_of spec.now) }
     ensures { result ≡ first_form spec.now spec.now.libs }
 {
     let libs = spec.libs();

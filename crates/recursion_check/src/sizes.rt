@@ -5,7 +5,7 @@ ghost use Rattle.stream_core.specs.Term.{trees};
 ghost use Rattle.stream_core.specs.WellTyped.{WellTyped};
 ghost use Rattle.stream_core.specs.declared.spec.ExternItem.{ExternItem};
 ghost use Rattle.stream_types.specs.TypeList.{Stands};
-ghost use Rattle.recursion_check.specs.Sizes.{form_words, streams_words, libs_words, externs_words};
+ghost use Rattle.recursion_check.specs.Counted.{form_words, streams_words, libs_words, externs_words};
 
 use stream_core::{ExternItem, LibForm, LibItem, Spec, StreamItem};
 use stream_types::{TypeEntry, Types};

@@ -3,7 +3,7 @@ ghost use Rattle.std.specs.Prelude.{◌≡◌, ◌+◌, ◌<◌, ◌≤◌, [], 
 ghost use Rattle.std.specs.List.{AllByRecursion};
 ghost use Rattle.stream_core.specs.Parts.{parts};
 ghost use Rattle.stream_core.specs.Stored.{HasRoom, with_item};
-ghost use Rattle.recursion_check.specs.Worked.{bare_trigger, bool_def, doubled, empty, four_defs, many, sums, with_node};
+ghost use Rattle.recursion_check.specs.TestSpecs.{bare_trigger, bool_def, doubled, empty, four_defs, many, sums, with_node};
 
 use crate::{Sound, SoundFault, sound};
 use sm_io::{Name, Seq};
@@ -187,9 +187,9 @@ fn fault(answer: Result<Sound, (Spec, SoundFault)>) -> Option<SoundFault> {
     }
 }
 
-// The first def that lies on a ring is reported, not the first ring that is found.
+// The first def that lies on a cycle is reported, not the first cycle that is found.
 #[test]
-fn rings(rt: HostRuntime) {
+fn cycles(rt: HostRuntime) {
     let alloc = rt.alloc();
     let m = Maker { rt: &rt, alloc };
     assert!(rt; m.judged(2, 3, 4, 0).is_none());

@@ -1,10 +1,10 @@
-// A walk that finds the rings of a specification's defs.
+// A walk that finds the cycles of a specification's defs.
 ghost use Rattle.std.specs.Prelude.{◌≡◌, ◌≢◌, ◌↔◌, ℕ, ◌+◌, ◌-◌, ◌<◌, ◌≤◌, ◌^◌, ◌++◌, ◌∷◌, [], length, map, take, drop, replicate, slice_get, slice_set, Some, None, MatchOption, IfOk, OnOk, IfSome, IfNone, IsTrue, nat_lt, if◌then◌else◌};
 ghost use Rattle.std.specs.List.{sum_by};
-ghost use Rattle.stream_core.specs.Soundness.{HasNoRing};
+ghost use Rattle.stream_core.specs.Soundness.{HasNoCycle};
 ghost use Rattle.stream_core.specs.Term.{defs_of};
 ghost use Rattle.stream_core.specs.WellTyped.{WellTyped};
-ghost use Rattle.recursion_check.specs.Graph.{Has, places, IsFirstOnRing};
+ghost use Rattle.recursion_check.specs.Graph.{Has, places, IsFirstOnCycle};
 ghost use Rattle.recursion_check.specs.Walked.{HasEdge, IsWalking, IsReached, IsCut, Rising, edge_from, StaysOld, fresh, mark_all, least_def, lesser};
 
 use crate::edges::{Edge, push_edges};
@@ -20,7 +20,7 @@ pub(crate) enum Mark {
 }
 
 /// The marks of all places, the path of open places, the numbers at which its groups begin, the steps still to be taken
-/// from it, and the first def found so far that lies on a ring.
+/// from it, and the first def found so far that lies on a cycle.
 #[derive(Drop)]
 pub(crate) struct Walk {
     marks: Vec<Mark>,
@@ -58,7 +58,7 @@ fn group_from(path: &[usize], start: usize) -> &[usize]
     &path[start..]
 }
 
-// The first def that lies on a ring, with those of a group, whose places lie on rings where there are two or more.
+// The first def that lies on a cycle, with those of a group, whose places lie on cycles where there are two or more.
 fn first_with(first: Option<usize>, group: &[usize], defs: usize) -> Option<usize>
     ensures { result ≡ (if nat_lt 1 (length group.now) then least_def defs first group.now else first) }
 {
@@ -245,10 +245,10 @@ impl Walk {
     }
 }
 
-/// The first def that lies on a ring, or none.
-pub(crate) fn first_on_ring(alloc: Global, spec: &Spec) -> Result<Option<usize>, AllocError>
+/// The first def that lies on a cycle, or none.
+pub(crate) fn first_on_cycle(alloc: Global, spec: &Spec) -> Result<Option<usize>, AllocError>
     requires { WellTyped spec.now }
-    ensures { IfOk result (λ first. MatchOption first (HasNoRing (defs_of spec.now)) (λ d. IsFirstOnRing (defs_of spec.now) d)) }
+    ensures { IfOk result (λ first. MatchOption first (HasNoCycle (defs_of spec.now)) (λ d. IsFirstOnCycle (defs_of spec.now) d)) }
 {
     let defs = spec.defs().len();
     let Some(places) = defs.checked_add(spec.nodes()) else {

@@ -1,4 +1,4 @@
-pub mod Rings
-pub mod Rows
-pub mod Steps
+pub mod RingsInBlock
+pub mod RowsInWords
+pub mod CellWalks
 pub mod Blocks

@@ -2,7 +2,7 @@
 use Rattle.std.specs.Prelude.{◌≡◌, ℕ, ◌+◌, ◌*◌, ◌%◌, ◌<◌, ◌≤◌, List, [], ◌∷◌, ◌++◌, length, take, drop}
 use Rattle.ring_bank.specs.declared.shape.Shape.{Shape}
 use Rattle.ring_bank.specs.declared.ring.Ring.{Ring}
-use Rattle.ring_bank.specs.Rows.{rows_of}
+use Rattle.ring_bank.specs.RingRows.{rows_of}
 
 -- the rings of these shapes in turn, where the first begins at an index
 abbrev pub rings_from : ℕ → List Shape → List Ring
@@ -24,7 +24,7 @@ Laid at [] end = at ≡ end
 Laid at (r ∷ rs) end = (r.base ≡ at) × (r.oldest < r.len) × (0 < r.width) × Laid (at + r.len * r.width) rs end
 
 -- a ring lies between two indices
-pub record IsPlaced (at : ℕ) (r : Ring) (end : ℕ) : Type 0 where
+pub record LiesBetween (at : ℕ) (r : Ring) (end : ℕ) : Type 0 where
   pub starts : at ≤ r.base
   pub ends : r.base + r.len * r.width ≤ end
   pub oldest : r.oldest < r.len

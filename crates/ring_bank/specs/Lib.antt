@@ -1,3 +1,3 @@
 pub mod Layout
 pub mod Ownership
-pub mod Rows
+pub mod RingRows

@@ -1,6 +1,6 @@
 //! The bank: rings of rows over one block.
 ghost use Rattle.std.specs.Prelude.{◌≡◌, ◌<◌, ◌≤◌, length, slice_index, slice_set, IfOk};
-ghost use Rattle.ring_bank.specs.Rows.{rings_of, words_of, ring_at, row_at, width_of, pushed};
+ghost use Rattle.ring_bank.specs.RingRows.{rings_of, words_of, ring_at, row_at, width_of, pushed};
 
 use crate::block::Block;
 use crate::ring::{Ring, lay_out};

@@ -1,7 +1,7 @@
 //! Where a ring lies in the block, and which of its rows is the oldest.
 ghost use Rattle.std.specs.Prelude.{◌≡◌, ◌<◌, ◌≤◌, IfOk};
-ghost use Rattle.ring_bank.specs.Rows.{words_of};
-ghost use Rattle.ring_bank.specs.Layout.{rings_from, IsPlaced, row_start, turned};
+ghost use Rattle.ring_bank.specs.RingRows.{words_of};
+ghost use Rattle.ring_bank.specs.Layout.{rings_from, LiesBetween, row_start, turned};
 
 use crate::shape::Shape;
 use std::alloc::{AllocError, Global};
@@ -43,7 +43,7 @@ pub(crate) fn lay_out(alloc: Global, shapes: &[Shape]) -> Result<Vec<Ring>, Allo
 impl Ring {
     /// The index of the first word of row `k`, counted from the oldest. Behind the ring's last slot comes its first.
     pub(crate) fn row(&self, k: usize) -> usize
-        requires placed { IsPlaced 0 self.now 262144 }
+        requires placed { LiesBetween 0 self.now 262144 }
         requires row { k < self.now.len }
         ensures { result ≡ row_start self.now k }
     {
@@ -52,7 +52,7 @@ impl Ring {
 
     /// The row behind the oldest is the oldest from now on.
     pub(crate) fn turn(&mut self)
-        requires { IsPlaced 0 self.old 262144 }
+        requires { LiesBetween 0 self.old 262144 }
         ensures { self.new ≡ turned self.old }
     {
         self.oldest = (self.oldest + 1) % self.len;

@@ -7,12 +7,13 @@ use Rattle.stream_types.specs.declared.scalar.Hazard.{Hazard}
 use Rattle.stream_core.specs.Library.{bind, is_true_word}
 use Rattle.stream_core.specs.Eval.{Table, Moment, Event, StepValues, trigger, part_of, fired, step_at, moment, grown, next_table, table_after, events_of, or_none, step_events, log}
 use Rattle.stream_core.specs.Handlers.{trigger_name, handlers, calls_of, calls}
-use Rattle.c99_ast.specs.Step.{Called}
-use Rattle.c99_ast.specs.Words.{is_same}
+use Rattle.c99_tree.specs.Step.{Called}
+use Rattle.c99_tree.specs.Words.{is_same}
 use Rattle.ring_codegen.specs.Simulation.{called}
-use Rattle.ring_codegen.specs.Rows.{bool_item}
+use Rattle.ring_codegen.specs.Built.{bool_item}
 use Rattle.ring_codegen.proofs.Plain.{Link, link_trigger, plain_spec}
 use Rattle.ring_codegen.proofs.Stepping.{shown}
+use Rattle.sm_io.proofs.Elements.{map_push}
 
 -- the events of the triggers from number i on
 abbrev events : List ℕ → ℕ → List Link → List Event
@@ -39,10 +40,6 @@ fired-are m row n part i (l ∷ ls) h =
         ≡ Ok ((if b then record { who = trigger i; words = [] } ∷ [] else []) ++ events row (i + 1) ls)
     by true f = ap (λ (r : Result (List Event) Hazard). bind r (λ more_. Ok ((record { who = trigger i; words = [] } ∷ []) ++ more_))) f
     by false f = ap (λ (r : Result (List Event) Hazard). bind r (λ more_. Ok more_)) f
-
-map_push : {X Y : Type 0} (f : X → Y) (xs : List X) (y : X) → map f (xs ++ y ∷ []) ≡ map f xs ++ f y ∷ []
-map_push f [] y = refl
-map_push f (x ∷ xs) y = ap (λ r. f x ∷ r) (map_push f xs y)
 
 module _ (name : List ℕ) (names : List (List ℕ)) (links : List Link) (reads : AllByRecursion (λ (l : Link). l.reads < length names) links) where
   found : List ℕ → StepValues

@@ -10,7 +10,7 @@ use Rattle.stream_core.specs.Term.{Term, TreeTrigger, tree, tree_root, root_with
 use Rattle.stream_core.specs.Handlers.{handlers_after}
 use Rattle.stream_core.specs.Meaning.{handlers}
 use Rattle.stream_core.specs.Value.{SpecValue}
-use Rattle.c99_ast.specs.declared.types.CProto.{CProto}
+use Rattle.c99_tree.specs.declared.types.CProto.{CProto}
 use Rattle.ring_codegen.specs.Generated.{bare_handler}
 
 abbrev pub with_name : List (List ℕ) → List ℕ → List (List ℕ)

@@ -3,7 +3,6 @@ use Rattle.std.proofs.Common.{◌≡◌, ℕ, zero, suc, ◌<◌, ◌≤◌, Boo
 use Rattle.std.specs.Prelude.{slice_get, nat_lt, nat_le, codes, All, IsTrue}
 use Rattle.std.specs.Option.{option_map}
 use Rattle.std.specs.List.{list_all, list_any, AllByRecursion}
-use Rattle.std.specs.Cmp.Lexicographic.{nat_list_eq_equiv}
 use Rattle.std.proofs.lemmas.Bool.{and_parts, ltb-true, leb-true}
 use Rattle.std.proofs.lemmas.List.{length-map}
 use Rattle.std.proofs.lemmas.Option.{slice_get-map}
@@ -18,15 +17,16 @@ use Rattle.stream_core.specs.Value.{SpecValue}
 use Rattle.stream_core.specs.declared.spec.Item.{Item}
 use Rattle.stream_core.specs.Ordered.{all_parts}
 use Rattle.stream_core.specs.Stored.{IsPlaced, HasRoom}
-use Rattle.stream_core.specs.Term.{Term, TreeTrigger, extern, tree, tree_root, trees}
+use Rattle.stream_core.specs.Term.{Term, TreeTrigger, tree, tree_root, trees}
 use Rattle.stream_core.specs.WellTyped.{bool, HasType, IsGoodTrigger, HasGoodNames, WellTyped, declared_names, argument_types}
 use Rattle.stream_core.specs.Soundness.{total_words}
-use Rattle.c99_ast.specs.Words.{is_same}
-use Rattle.c99_ast.specs.WellFormed.{are_distinct}
-use Rattle.ring_codegen.specs.Built.{IsBuiltTrigger, IsBuilt}
-use Rattle.ring_codegen.specs.Rows.{bool_item, Bare, bare, bare_trigger, bare_spec, empty, door, doors}
-use Rattle.ring_codegen.proofs.Listing.{by_index, by_place, get_there, at_any, Once}
+use Rattle.c99_tree.specs.Words.{is_same}
+use Rattle.c99_tree.specs.WellFormed.{are_distinct}
+use Rattle.ring_codegen.specs.Built.{IsBuiltTrigger, IsBuilt, bool_item}
+use Rattle.ring_codegen.specs.WorkedSpecs.{Bare, bare, bare_trigger, bare_spec, empty, door, doors}
+use Rattle.ring_codegen.proofs.Listing.{by_place, at_any, Once}
 use Rattle.ring_codegen.proofs.Named.{expr-is, words-are}
+use Rattle.sm_io.proofs.Elements.{all_by_place, get_within}
 
 -- a trigger has a name that no extern has, and a node for its guard
 abbrev is_fit : List (List ℕ) → ℕ → Bare → Bool
@@ -86,7 +86,7 @@ no_parts (k ∷ reads) (suc i) m n e = no_parts reads i m n e
 
 -- the number of the extern that a node reads
 node_reads : (reads : List ℕ) (i : ℕ) → i < length reads → (k : ℕ) × (slice_get reads i ≡ Some k) × (slice_get (map node.Extern reads) i ≡ Some (node.Extern k))
-node_reads reads i b = let at = get_there reads i b in (at.0, at.1, slice_get-map node.Extern reads i ∙ ap (option_map node.Extern) at.1)
+node_reads reads i b = let at = get_within reads i b in (at.0, at.1, slice_get-map node.Extern reads i ∙ ap (option_map node.Extern) at.1)
 
 names-of : (names : List (List ℕ)) → map (λ (x : ExternItem). x.name) (map bool_item names) ≡ names
 names-of [] = refl
@@ -146,7 +146,7 @@ module _ (name : List ℕ) (names : List (List ℕ)) (reads : List ℕ) (trigger
   node_typed : (i : ℕ) → i < length reads → HasType (trees spec) (tree spec.nodes [] i) bool
   node_typed i b =
       let node = node_reads reads i b in
-      let at = get_there names node.0 (ltb-true node.0 (length names) (by_place (λ k. nat_lt k (length names) ≡ true) reads i node.0 f.below node.1)) in
+      let at = get_within names node.0 (ltb-true node.0 (length names) (by_place (λ k. nat_lt k (length names) ≡ true) reads i node.0 f.below node.1)) in
       subst (λ (t : Term). HasType (trees spec) t bool) (sym (expr-is spec.nodes [] i node.0 node.2))
       (record { item = bool_item at.0; is = slice_get-map bool_item names node.0 ∙ ap (option_map bool_item) at.1; type_is = refl })
 
@@ -159,10 +159,10 @@ module _ (name : List ℕ) (names : List (List ℕ)) (reads : List ℕ) (trigger
   names_fit = record {
     spec = f.name_is;
     types = none _;
-    externs = by_index (λ (x : ExternItem). is_name x.name ≡ true) (map bool_item names) (each_map (λ n. is_name n ≡ true) (λ (x : ExternItem). is_name x.name ≡ true) bool_item (λ n h. h) names f.names_are);
+    externs = all_by_place (λ (x : ExternItem). is_name x.name ≡ true) (map bool_item names) (each_map (λ n. is_name n ≡ true) (λ (x : ExternItem). is_name x.name ≡ true) bool_item (λ n h. h) names f.names_are);
     streams = none _;
     defs = none _;
-    triggers = by_index (λ (x : TriggerItem). is_name x.name ≡ true) (map bare_trigger triggers)
+    triggers = all_by_place (λ (x : TriggerItem). is_name x.name ≡ true) (map bare_trigger triggers)
         (each_map (λ x. is_fit names (length reads) x ≡ true) (λ (x : TriggerItem). is_name x.name ≡ true) bare_trigger (λ x h. (fit_trigger names (length reads) x h).named) triggers f.fit);
     observers = none _;
     once = subst Once (sym declared-is) f.once;
@@ -178,10 +178,10 @@ module _ (name : List ℕ) (names : List (List ℕ)) (reads : List ℕ) (trigger
     types = no_types;
     ordered = record { below = λ i n e. no_parts reads i i n e };
     nodes = λ i b. (bool, node_typed i (let l = length-map reads node.Extern in omega arith));
-    externs = by_index (λ (x : ExternItem). Stands [] x.ty) (map bool_item names) (all_stand names);
+    externs = all_by_place (λ (x : ExternItem). Stands [] x.ty) (map bool_item names) (all_stand names);
     streams = none _;
     defs = none _;
-    triggers = by_index (IsGoodTrigger (trees spec)) (trees spec).triggers
+    triggers = all_by_place (IsGoodTrigger (trees spec)) (trees spec).triggers
         (each_map (λ (x : TriggerItem). IsGoodTrigger (trees spec) (root x)) (IsGoodTrigger (trees spec)) root (λ x h. h) (map bare_trigger triggers)
         (each_map (λ x. is_fit names (length reads) x ≡ true) (λ (x : TriggerItem). IsGoodTrigger (trees spec) (root x)) bare_trigger
         (λ x h. record { guard = node_typed x.guard (fit_trigger names (length reads) x h).there; truth = refl; args = none _; few = zero-le }) triggers f.fit));
@@ -197,10 +197,10 @@ module _ (name : List ℕ) (names : List (List ℕ)) (reads : List ℕ) (trigger
   is_built : IsBuilt spec
   is_built = record {
     types = refl;
-    externs = by_index (λ (x : ExternItem). x.ty ≡ bool) (map bool_item names) (all_bool names);
+    externs = all_by_place (λ (x : ExternItem). x.ty ≡ bool) (map bool_item names) (all_bool names);
     streams = refl;
     defs = refl;
-    triggers = by_index (IsBuiltTrigger spec.nodes) (map bare_trigger triggers)
+    triggers = all_by_place (IsBuiltTrigger spec.nodes) (map bare_trigger triggers)
         (each_map (λ x. is_fit names (length reads) x ≡ true) (IsBuiltTrigger spec.nodes) bare_trigger
         (λ x h. let node = node_reads reads x.guard (fit_trigger names (length reads) x h).there in record { guard = (node.0, node.2); args = refl }) triggers f.fit);
     observers = refl;

@@ -3,10 +3,11 @@ use Rattle.std.proofs.Common.{◌≡◌, ℕ, zero, suc, ◌+◌, ◌<◌, Bool,
 use Rattle.std.specs.Prelude.{slice_get, All, ◌⊎◌}
 use Rattle.std.specs.List.{list_all, list_any, position_or_len, AllByRecursion}
 use Rattle.std.specs.Cmp.Lexicographic.{nat_list_eq_equiv}
+use Rattle.std.proofs.lemmas.Bool.{and_from}
 use Rattle.std.proofs.lemmas.List.Folds.{list_all-append, list_any-append}
 use Rattle.stream_core.proofs.SameNode.{list_same}
-use Rattle.c99_ast.proofs.Soundness.{both}
-use Rattle.c99_ast.specs.Words.{is_same}
+use Rattle.c99_tree.specs.Words.{is_same}
+use Rattle.sm_io.proofs.Elements.{all_by_place, get_front, get_within}
 
 -- ---- tests of each element
 
@@ -30,12 +31,6 @@ pub each_weaken : {X : Type 0} (P Q : X → Type 0) → ((x : X) → P x → Q x
 each_weaken P Q f [] h = tt
 each_weaken P Q f (x ∷ xs) h = (f x h.0, each_weaken P Q f xs h.1)
 
--- back from one that is told by recursion
-pub by_index : {X : Type 0} (P : X → Type 0) (xs : List X) → AllByRecursion P xs → All P xs
-by_index P [] h k d b = absurd (omega (arith, b))
-by_index P (x ∷ xs) h zero d b = h.0
-by_index P (x ∷ xs) h (suc k) d b = by_index P xs h.1 k d (omega (arith, b))
-
 pub by_place : {X : Type 0} (P : X → Type 0) (xs : List X) (k : ℕ) (x : X) → AllByRecursion P xs → slice_get xs k ≡ Some x → P x
 by_place P [] k x h e = absurd (cc e)
 by_place P (y ∷ xs) zero x h e = let s : y ≡ x = cc e in subst P s h.0
@@ -51,10 +46,10 @@ each_push P (x ∷ xs) y h g = (h.0, each_push P xs y h.1 g)
 
 pub all_pass : {X Y : Type 0} (P : X → Type 0) (p : Y → Bool) (f : X → Y) → ((x : X) → P x → p (f x) ≡ true) → (xs : List X) → AllByRecursion P xs → list_all p (map f xs) ≡ true
 all_pass P p f pass [] h = refl
-all_pass P p f pass (x ∷ xs) h = both (p (f x)) (list_all p (map f xs)) (pass x h.0) (all_pass P p f pass xs h.1)
+all_pass P p f pass (x ∷ xs) h = and_from (p (f x)) (list_all p (map f xs)) (pass x h.0) (all_pass P p f pass xs h.1)
 
 pub all_both : {X : Type 0} (p : X → Bool) (xs ys : List X) → list_all p xs ≡ true → list_all p ys ≡ true → list_all p (xs ++ ys) ≡ true
-all_both p xs ys h g = list_all-append p xs ys ∙ both (list_all p xs) (list_all p ys) h g
+all_both p xs ys h g = list_all-append p xs ys ∙ and_from (list_all p xs) (list_all p ys) h g
 
 pub front_any : {X : Type 0} (p : X → Bool) (xs ys : List X) → list_any p xs ≡ true → list_any p (xs ++ ys) ≡ true
 front_any p xs ys h = list_any-append p xs ys ∙ ap (λ (b : Bool). b || list_any p ys) h
@@ -111,16 +106,6 @@ placed (n ∷ ns) once (suc k) x e = by (placed ns (once_rest n ns once) k x e) 
     by rest false s = ap (λ (b : Bool). cond (not b) (1 + position_or_len (is_same x) ns) 0) s ∙ omega (arith, rest)
 
 -- ---- places
-
-pub get_there : {X : Type 0} (xs : List X) (i : ℕ) → i < length xs → (x : X) × (slice_get xs i ≡ Some x)
-get_there [] i h = absurd (omega arith)
-get_there (x ∷ xs) zero h = (x, refl)
-get_there (x ∷ xs) (suc i) h = get_there xs i (omega arith)
-
-pub get_front : {X : Type 0} (xs ys : List X) (i : ℕ) (x : X) → slice_get xs i ≡ Some x → slice_get (xs ++ ys) i ≡ Some x
-get_front [] ys i x e = absurd (cc e)
-get_front (z ∷ xs) ys zero x e = e
-get_front (z ∷ xs) ys (suc i) x e = get_front xs ys i x e
 
 pub get_behind : {X : Type 0} (xs : List X) (y : X) (ys : List X) → slice_get (xs ++ y ∷ ys) (length xs) ≡ Some y
 get_behind [] y ys = refl

@@ -28,19 +28,19 @@ use Rattle.stream_core.specs.Handlers as called
 use Rattle.stream_core.specs.Handlers.{handlers_after}
 use Rattle.stream_core.specs.Meaning.{closed_spec, storage}
 use Rattle.stream_core.proofs.Handled.{handlers_once, handler_named}
-use Rattle.c99_ast.specs.declared.types.CVar.{CVar}
-use Rattle.c99_ast.specs.declared.expr.CExpr.TheVariants as e
-use Rattle.c99_ast.specs.declared.unit.CStmt.{CStmt}
-use Rattle.c99_ast.specs.declared.unit.CStmt.TheVariants as s
-use Rattle.c99_ast.specs.Words.{is_same}
+use Rattle.c99_tree.specs.declared.types.CVar.{CVar}
+use Rattle.c99_tree.specs.declared.expr.CExpr.TheVariants as e
+use Rattle.c99_tree.specs.declared.unit.CStmt.{CStmt}
+use Rattle.c99_tree.specs.declared.unit.CStmt.TheVariants as s
+use Rattle.c99_tree.specs.Words.{is_same}
 use Rattle.ring_codegen.specs.CTypes.{c_type, c_extern, c_arguments, c_handler, c_handlers}
-use Rattle.ring_codegen.specs.Built.{IsExternNode, IsBuiltTrigger, IsBuilt}
+use Rattle.ring_codegen.specs.Built.{IsExternNode, IsBuiltTrigger, IsBuilt, bool_item}
 use Rattle.ring_codegen.specs.Generated.{extern_read, extern_name, HasGuard, bool_var, bare_handler, copy_statement, call_statement, program_of}
-use Rattle.ring_codegen.specs.Rows.{bool_item}
 use Rattle.ring_codegen.proofs.FirstNames.{closed_triggers}
-use Rattle.ring_codegen.proofs.Listing.{by_recursion, by_index, of_map, to_map, each_two, each_weaken, by_get, each_push, Once, once_both, once_first, get_front, at_any, by_place}
+use Rattle.ring_codegen.proofs.Listing.{by_recursion, of_map, to_map, each_two, each_weaken, by_get, each_push, Once, once_both, once_first, at_any, by_place}
 use Rattle.ring_codegen.proofs.Plain.{Link, link_trigger, plain_spec, var, link_call, plain_program}
 use Rattle.ring_codegen.proofs.Sound.{GoodNames}
+use Rattle.sm_io.proofs.Elements.{all_by_place, get_front}
 
 abbrev pub names_of : SpecValue → List (List ℕ)
 names_of s = map (λ (x : ExternItem). x.name) s.externs
@@ -123,7 +123,7 @@ guards_there s b typed =
     (by_recursion (IsBuiltTrigger s.nodes) s.triggers b.triggers) good
 
 pub guards_are : (s : SpecValue) → IsBuilt s → WellTyped s → All (HasGuard s) s.triggers
-guards_are s b typed = by_index (HasGuard s) s.triggers (guards_there s b typed)
+guards_are s b typed = all_by_place (HasGuard s) s.triggers (guards_there s b typed)
 
 -- ---- its names
 

@@ -2,22 +2,19 @@
 use Rattle.std.proofs.Common.{◌≡◌, ℕ, List, [], ◌∷◌, ◌++◌, length, map, refl, ap}
 use Rattle.std.specs.Prelude.{slice_get}
 use Rattle.std.specs.Option.{option_map_or}
-use Rattle.stream_types.specs.declared.scalar.Scalar.TheVariants as scalar
 use Rattle.stream_types.specs.declared.scalar.Ty.{Ty}
-use Rattle.stream_types.specs.declared.scalar.Ty.TheVariants as ty
-use Rattle.stream_core.specs.declared.spec.ExternItem.{ExternItem}
 use Rattle.stream_core.specs.Term.{extern, TreeSpec, TreeTrigger}
-use Rattle.c99_ast.specs.declared.expr.CExpr.TheVariants as e
-use Rattle.c99_ast.specs.declared.types.CScalar.TheVariants as c
-use Rattle.c99_ast.specs.declared.types.CTy.TheVariants as cty
-use Rattle.c99_ast.specs.declared.types.CVar.{CVar}
-use Rattle.c99_ast.specs.declared.unit.CStmt.{CStmt}
-use Rattle.c99_ast.specs.declared.unit.CStmt.TheVariants as s
-use Rattle.c99_ast.specs.declared.unit.Unit.{Unit as CUnit}
-use Rattle.c99_ast.specs.Tree.{Stmt, copies, calls, copy, none, statement, statements}
-use Rattle.c99_ast.specs.TreeLaws.{tree-Copy}
+use Rattle.c99_tree.specs.declared.expr.CExpr.TheVariants as e
+use Rattle.c99_tree.specs.declared.types.CScalar.TheVariants as c
+use Rattle.c99_tree.specs.declared.types.CTy.TheVariants as cty
+use Rattle.c99_tree.specs.declared.types.CVar.{CVar}
+use Rattle.c99_tree.specs.declared.unit.CStmt.{CStmt}
+use Rattle.c99_tree.specs.declared.unit.CStmt.TheVariants as s
+use Rattle.c99_tree.specs.declared.unit.Unit.{Unit as CUnit}
+use Rattle.c99_tree.specs.Tree.{Stmt, copies, calls, copy, none, statement, statements}
+use Rattle.c99_tree.specs.TreeLaws.{tree-Copy}
 use Rattle.ring_codegen.specs.Generated.{bare_handler}
-use Rattle.ring_codegen.specs.Rows.{bool_item}
+use Rattle.ring_codegen.specs.Built.{bool_item}
 
 -- a trigger: its name, the extern that its guard reads, and where the guard stands
 pub record Link : Type 0 where

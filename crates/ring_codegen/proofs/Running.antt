@@ -7,15 +7,16 @@ use Rattle.stream_types.specs.Types.{leaves, AreWords}
 use Rattle.stream_core.specs.declared.spec.ExternItem.{ExternItem}
 use Rattle.stream_core.specs.Eval.{IsHistory}
 use Rattle.stream_core.specs.Handlers.{handlers, calls}
-use Rattle.c99_ast.specs.Values.{Value}
-use Rattle.c99_ast.specs.Step.{Called}
-use Rattle.c99_ast.specs.Run.{Ran, run, run_to, row_at, first_copy, with_step, stepped, calls_of}
+use Rattle.c99_tree.specs.Values.{Value}
+use Rattle.c99_tree.specs.Step.{Called}
+use Rattle.c99_tree.specs.Run.{Ran, run, run_to, row_at, first_copy, with_step, stepped, calls_of}
 use Rattle.ring_codegen.specs.Simulation.{called}
-use Rattle.ring_codegen.specs.Rows.{bool_item}
-use Rattle.ring_codegen.proofs.Listing.{Once, by_index}
+use Rattle.ring_codegen.specs.Built.{bool_item}
+use Rattle.ring_codegen.proofs.Listing.{Once}
 use Rattle.ring_codegen.proofs.Plain.{Link, var, plain_spec, plain_program}
 use Rattle.ring_codegen.proofs.Stepping.{bool_value, shown, words-length, step-is}
 use Rattle.ring_codegen.proofs.Firing.{calls-more}
+use Rattle.sm_io.proofs.Elements.{all_by_place}
 
 row-is : (h : List (List ℕ)) (n : ℕ) → row_at h n ≡ slice_index_or h n []
 row-is [] n = refl
@@ -36,7 +37,7 @@ module _ (name uname : List ℕ) (names : List (List ℕ)) (links : List Link) (
   ran h rows (suc n) b =
       let before = ran h rows n (omega (arith, b)) in
       let row_is = row-is h n in
-      let words : IsRow names (row_at h n) = subst (IsRow names) (sym row_is) (by_index (IsRow names) h rows n [] (omega (arith, b))) in
+      let words : IsRow names (row_at h n) = subst (IsRow names) (sym row_is) (all_by_place (IsRow names) h rows n [] (omega (arith, b))) in
       let hs = handlers (plain_spec name names links) in
       let made = map (map called) (calls (plain_spec name names links) h n) in (
         map bool_value (row_at h n),

@@ -12,10 +12,10 @@ use Rattle.stream_core.specs.WellTyped.{WellTyped}
 use Rattle.stream_core.specs.Soundness.{total_words}
 use Rattle.stream_core.specs.Eval as eval
 use Rattle.stream_core.specs.Handlers as called
-use Rattle.c99_ast.specs.declared.unit.Unit.{Unit as CUnit}
-use Rattle.c99_ast.specs.Run.{run}
-use Rattle.c99_ast.specs.Storage.{storage_of}
-use Rattle.c99_ast.specs.WellFormed.{IsWellFormed}
+use Rattle.c99_tree.specs.declared.unit.Unit.{Unit as CUnit}
+use Rattle.c99_tree.specs.Run.{run}
+use Rattle.c99_tree.specs.Storage.{storage_of}
+use Rattle.c99_tree.specs.WellFormed.{IsWellFormed}
 use Rattle.ring_codegen.specs.CTypes.{c_def}
 use Rattle.ring_codegen.specs.Simulation.{copies_stand_first, called, Simulates}
 use Rattle.ring_codegen.specs.Built.{IsBuilt}

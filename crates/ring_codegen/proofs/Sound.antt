@@ -3,28 +3,28 @@ use Rattle.std.proofs.Common.{◌≡◌, ℕ, suc, ◌+◌, ◌<◌, ◌≤◌, 
 use Rattle.std.specs.Prelude.{slice_get, IsTrue}
 use Rattle.std.specs.Option.{option_map_or}
 use Rattle.std.specs.List.{list_all, list_any, filter_map, sum_by, AllByRecursion}
-use Rattle.std.proofs.lemmas.Bool.{false_from_ne_true, le-leb, eq-eqb}
+use Rattle.std.proofs.lemmas.Bool.{false_from_ne_true, le-leb, eq-eqb, and_from}
 use Rattle.std.proofs.lemmas.List.Folds.{list_any-append}
 use Rattle.std.proofs.lemmas.List.Sums.{sum_by-cons}
 use Rattle.sm_io.specs.Words.{is_name}
-use Rattle.c99_ast.specs.declared.types.CVar.{CVar}
-use Rattle.c99_ast.specs.declared.types.CProto.{CProto}
-use Rattle.c99_ast.specs.declared.unit.Unit.{Unit as CUnit}
-use Rattle.c99_ast.specs.Tree.{Stmt, copies, calls, copy, none}
-use Rattle.c99_ast.specs.Words.{is_same}
-use Rattle.c99_ast.specs.Lookup.{var_of, handler_of, is_defined}
-use Rattle.c99_ast.specs.Values.{shape_within}
-use Rattle.c99_ast.specs.Storage.{copy_storage, storage_of}
-use Rattle.c99_ast.specs.Weight.{statement_weight, unit_weight_of}
-use Rattle.c99_ast.specs.Checks.{is_sound_statement}
-use Rattle.c99_ast.specs.Rules.{has_names, is_declared_well, has_sound_step}
-use Rattle.c99_ast.specs.WellFormed.{IsWellFormed, has_names_var, has_names_handler, names_are_distinct, types_come_first, each_statement, each_after, are_distinct, is_read_after_copy, is_copy_of, copies_come_first, parts_in, is_written_after_next, next_of, totals_are_right}
-use Rattle.c99_ast.proofs.Soundness.{both}
-use Rattle.c99_ast.proofs.Whole.{sound-well}
+use Rattle.c99_tree.specs.declared.types.CVar.{CVar}
+use Rattle.c99_tree.specs.declared.types.CProto.{CProto}
+use Rattle.c99_tree.specs.declared.unit.Unit.{Unit as CUnit}
+use Rattle.c99_tree.specs.Tree.{Stmt, copies, calls, copy, none}
+use Rattle.c99_tree.specs.Words.{is_same}
+use Rattle.c99_tree.specs.Lookup.{var_of, handler_of, is_defined}
+use Rattle.c99_tree.specs.Values.{shape_within}
+use Rattle.c99_tree.specs.Storage.{copy_storage, storage_of}
+use Rattle.c99_tree.specs.Weight.{statement_weight, unit_weight_of}
+use Rattle.c99_tree.specs.Checks.{is_sound_statement}
+use Rattle.c99_tree.specs.Rules.{has_names, is_declared_well, has_sound_step}
+use Rattle.c99_tree.specs.WellFormed.{IsWellFormed, has_names_var, has_names_handler, names_are_distinct, types_come_first, each_statement, each_after, are_distinct, is_read_after_copy, is_copy_of, copies_come_first, parts_in, is_written_after_next, next_of, totals_are_right}
+use Rattle.c99_tree.proofs.Whole.{sound-well}
 use Rattle.ring_codegen.specs.Simulation.{is_copy, is_call, copies_stand_first}
 use Rattle.ring_codegen.specs.Generated.{bare_handler}
-use Rattle.ring_codegen.proofs.Listing.{all_pass, all_both, each_weaken, front_any, find_there, any_at, at_any, get_there, get_behind, by_place, Once, once_rest}
+use Rattle.ring_codegen.proofs.Listing.{all_pass, all_both, each_weaken, front_any, find_there, any_at, at_any, get_behind, by_place, Once, once_rest}
 use Rattle.ring_codegen.proofs.Plain.{Link, var, read_name, call_tree, call_trees, plain_program, statements-are}
+use Rattle.sm_io.proofs.Elements.{get_within}
 
 -- what is known of the names: they are names, each stands once, and each trigger has its handler and its extern
 pub record GoodNames (name : List ℕ) (names hs : List (List ℕ)) (links : List Link) : Type 0 where
@@ -43,7 +43,7 @@ distinct : (ns : List (List ℕ)) → Once ns → are_distinct is_same ns ≡ tr
 distinct [] once = refl
 distinct (n ∷ ns) once =
     let apart : list_any (is_same n) ns ≡ false = false_from_ne_true (list_any (is_same n) ns) (λ there. let i = any_at n ns there in let z : 0 ≡ suc i.0 = once 0 (suc i.0) n refl i.1 in absurd (omega arith)) in
-    both (not (list_any (is_same n) ns)) (are_distinct is_same ns) (ap not apart) (distinct ns (once_rest n ns once))
+    and_from (not (list_any (is_same n) ns)) (are_distinct is_same ns) (ap not apart) (distinct ns (once_rest n ns once))
 
 -- the names of the externs and of the handlers
 declared-names : (names hs : List (List ℕ)) → map (λ (x : CVar). x.name) (map var names) ++ map (λ (h : CProto). h.name) (map bare_handler hs) ≡ names ++ hs
@@ -56,10 +56,10 @@ module _ (name : List ℕ) (names hs : List (List ℕ)) (links : List Link) (goo
   program = plain_program name names hs links
 
   vars_named : list_all has_names_var (map var names) ≡ true
-  vars_named = all_pass (λ n. is_name n ≡ true) has_names_var var (λ n h. both (is_name n) true h refl) names good.names_are
+  vars_named = all_pass (λ n. is_name n ≡ true) has_names_var var (λ n h. and_from (is_name n) true h refl) names good.names_are
 
   handlers_named : list_all has_names_handler (map bare_handler hs) ≡ true
-  handlers_named = all_pass (λ n. is_name n ≡ true) has_names_handler bare_handler (λ n h. both (is_name n) true h refl) hs good.handlers_are
+  handlers_named = all_pass (λ n. is_name n ≡ true) has_names_handler bare_handler (λ n h. and_from (is_name n) true h refl) hs good.handlers_are
 
   names_right : has_names program ≡ true
   names_right = λ j. good.name_is j && true && vars_named j && handlers_named j && true
@@ -99,7 +99,7 @@ module _ (name : List ℕ) (names hs : List (List ℕ)) (links : List Link) (goo
   -- the name that a trigger's guard reads
   read_is : (l : Link) → l.reads < length names → (is_name (read_name names l) ≡ true) × (list_any (is_same (read_name names l)) names ≡ true)
   read_is l b =
-      let at = get_there names l.reads b in
+      let at = get_within names l.reads b in
       let is : at.0 ≡ read_name names l = sym (ap (λ (o : Option (List ℕ)). option_map_or (λ (n : List ℕ). n) o []) at.1) in
       subst (λ (x : List ℕ). (is_name x ≡ true) × (list_any (is_same x) names ≡ true)) is
       (by_place (λ n. is_name n ≡ true) names l.reads at.0 good.names_are at.1, at_any at.0 names l.reads at.1)
@@ -108,14 +108,14 @@ module _ (name : List ℕ) (names hs : List (List ℕ)) (links : List Link) (goo
   copies_sound front [] is h = refl
   copies_sound front (n ∷ ns) is h =
       let there : list_any (is_same n) names ≡ true = at_any n names (length front) (ap (λ (all : List (List ℕ)). slice_get all (length front)) (sym is) ∙ get_behind front n ns) in
-      both (is_sound_statement program (copies n)) (list_all (is_sound_statement program) (map copies ns)) (copy_sound n h.0 there) (copies_sound (front ++ n ∷ []) ns (append_assoc front (n ∷ []) ns ∙ is) h.1)
+      and_from (is_sound_statement program (copies n)) (list_all (is_sound_statement program) (map copies ns)) (copy_sound n h.0 there) (copies_sound (front ++ n ∷ []) ns (append_assoc front (n ∷ []) ns ∙ is) h.1)
 
   calls_sound : (ls : List Link) → AllByRecursion (λ (l : Link). is_name l.name ≡ true) ls → AllByRecursion (λ (l : Link). list_any (is_same l.name) hs ≡ true) ls → AllByRecursion (λ (l : Link). l.reads < length names) ls
       → list_all (is_sound_statement program) (call_trees names ls) ≡ true
   calls_sound [] named handled there = refl
   calls_sound (l ∷ ls) named handled there =
       let r = read_is l there.0 in
-      both (is_sound_statement program (call_tree names l)) (list_all (is_sound_statement program) (call_trees names ls))
+      and_from (is_sound_statement program (call_tree names l)) (list_all (is_sound_statement program) (call_trees names ls))
       (call_sound l.name (read_name names l) named.0 handled.0 r.0 r.1) (calls_sound ls named.1 handled.1 there.1)
 
   statements_sound : each_statement (is_sound_statement program) program ≡ true
@@ -134,15 +134,15 @@ module _ (name : List ℕ) (names hs : List (List ℕ)) (links : List Link) (goo
   calls_read : (before : List Stmt) (ls : List Link) → AllByRecursion (λ (l : Link). copied_in before (read_name names l)) ls → each_after reads_copied before (call_trees names ls) ≡ true
   calls_read before [] h = refl
   calls_read before (l ∷ ls) h =
-      let here : reads_copied before (call_tree names l) ≡ true = both (list_any (is_copy_of (read_name names l)) before) true h.0 refl in
-      both (reads_copied before (call_tree names l)) (each_after reads_copied (before ++ call_tree names l ∷ []) (call_trees names ls)) here
+      let here : reads_copied before (call_tree names l) ≡ true = and_from (list_any (is_copy_of (read_name names l)) before) true h.0 refl in
+      and_from (reads_copied before (call_tree names l)) (each_after reads_copied (before ++ call_tree names l ∷ []) (call_trees names ls)) here
       (calls_read (before ++ call_tree names l ∷ []) ls (each_weaken (λ (m : Link). copied_in before (read_name names m)) (λ (m : Link). copied_in (before ++ call_tree names l ∷ []) (read_name names m)) (λ m there. front_any (is_copy_of (read_name names m)) before (call_tree names l ∷ []) there) ls h.1))
 
   -- statements behind copies see them
   behind_copies : (p : List Stmt → Stmt → Bool) → ((before : List Stmt) (x : List ℕ) → p before (copies x) ≡ true) → (before : List Stmt) (ns : List (List ℕ)) (rest : List Stmt) → each_after p (before ++ map copies ns) rest ≡ true → each_after p before (map copies ns ++ rest) ≡ true
   behind_copies p free before [] rest h = subst (λ (front : List Stmt). each_after p front rest ≡ true) (append-nil before) h
   behind_copies p free before (n ∷ ns) rest h =
-      both (p before (copies n)) (each_after p (before ++ copies n ∷ []) (map copies ns ++ rest)) (free before n)
+      and_from (p before (copies n)) (each_after p (before ++ copies n ∷ []) (map copies ns ++ rest)) (free before n)
       (behind_copies p free (before ++ copies n ∷ []) ns rest (subst (λ (front : List Stmt). each_after p front rest ≡ true) (sym (append_assoc before (copies n ∷ []) (map copies ns))) h))
 
   copied_there : (x : List ℕ) (ns : List (List ℕ)) → list_any (is_same x) ns ≡ true → copied_in (map copies ns) x
@@ -169,7 +169,7 @@ module _ (name : List ℕ) (names hs : List (List ℕ)) (links : List Link) (goo
   copies_stand : (before : List Stmt) (ns : List (List ℕ)) (rest : List Stmt) → list_any is_call before ≡ false → each_after no_call_before (before ++ map copies ns) rest ≡ true → each_after no_call_before before (map copies ns ++ rest) ≡ true
   copies_stand before [] rest none_ h = subst (λ (front : List Stmt). each_after no_call_before front rest ≡ true) (append-nil before) h
   copies_stand before (n ∷ ns) rest none_ h =
-      both (no_call_before before (copies n)) (each_after no_call_before (before ++ copies n ∷ []) (map copies ns ++ rest)) (ap not none_)
+      and_from (no_call_before before (copies n)) (each_after no_call_before (before ++ copies n ∷ []) (map copies ns ++ rest)) (ap not none_)
       (copies_stand (before ++ copies n ∷ []) ns rest (list_any-append is_call before (copies n ∷ []) ∙ ap (λ (b : Bool). b || false) none_)
       (subst (λ (front : List Stmt). each_after no_call_before front rest ≡ true) (sym (append_assoc before (copies n ∷ []) (map copies ns))) h))
 

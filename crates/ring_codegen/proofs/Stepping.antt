@@ -6,22 +6,23 @@ use Rattle.std.specs.Option.{option_map_or}
 use Rattle.std.specs.List.{flat_map, position_or_len, AllByRecursion}
 use Rattle.stream_types.specs.Types.{leaves, AreWords}
 use Rattle.stream_core.specs.declared.spec.ExternItem.{ExternItem}
-use Rattle.c99_ast.specs.declared.types.CScalar.TheVariants as c
-use Rattle.c99_ast.specs.declared.types.CVar.{CVar}
-use Rattle.c99_ast.specs.declared.types.CProto.{CProto}
-use Rattle.c99_ast.specs.declared.unit.Unit.{Unit as CUnit}
-use Rattle.c99_ast.specs.declared.undefined.Undefined.{Undefined}
-use Rattle.c99_ast.specs.Tree.{Stmt, copies, calls, copy, none}
-use Rattle.c99_ast.specs.CTypes.{Num, num, is_zero}
-use Rattle.c99_ast.specs.Words.{is_same}
-use Rattle.c99_ast.specs.Lookup.{place_of_var, place_of_handler}
-use Rattle.c99_ast.specs.Values.{Value, number, number_in, no_such_value, row_values, shape_within}
-use Rattle.c99_ast.specs.Evaluation.{Met, done, after, ◌>>=◌, value_at, evaluate}
-use Rattle.c99_ast.specs.Step.{Called, Progress, called_if, carry_out_all, extern_values, step}
+use Rattle.c99_tree.specs.declared.types.CScalar.TheVariants as c
+use Rattle.c99_tree.specs.declared.types.CVar.{CVar}
+use Rattle.c99_tree.specs.declared.types.CProto.{CProto}
+use Rattle.c99_tree.specs.declared.unit.Unit.{Unit as CUnit}
+use Rattle.c99_tree.specs.declared.undefined.Undefined.{Undefined}
+use Rattle.c99_tree.specs.Tree.{Stmt, copies, calls, copy, none}
+use Rattle.c99_tree.specs.CTypes.{Num, num, is_zero}
+use Rattle.c99_tree.specs.Words.{is_same}
+use Rattle.c99_tree.specs.Lookup.{place_of_var, place_of_handler}
+use Rattle.c99_tree.specs.Values.{Value, number, number_in, no_such_value, row_values, shape_within}
+use Rattle.c99_tree.specs.Evaluation.{Met, done, after, ◌>>=◌, value_at, evaluate}
+use Rattle.c99_tree.specs.Step.{Called, Progress, called_if, carry_out_all, extern_values, step}
 use Rattle.ring_codegen.specs.Generated.{bare_handler}
-use Rattle.ring_codegen.specs.Rows.{bool_item}
-use Rattle.ring_codegen.proofs.Listing.{Once, placed, position_map, get_there, get_behind, set_behind}
+use Rattle.ring_codegen.specs.Built.{bool_item}
+use Rattle.ring_codegen.proofs.Listing.{Once, placed, position_map, get_behind, set_behind}
 use Rattle.ring_codegen.proofs.Plain.{Link, var, read_name, call_trees, plain_program, statements-are}
+use Rattle.sm_io.proofs.Elements.{get_within}
 
 abbrev pub bool_value : ℕ → Value
 bool_value w = number (num c.Bool (pos w))
@@ -124,7 +125,7 @@ value_of_row (w ∷ row) (suc k) b = value_of_row row k (omega (arith, b))
 module _ (u : CUnit) (all hs : List (List ℕ)) (once : Once all) (is : u.externs ≡ map var all) (hs_is : u.handlers ≡ map bare_handler hs) (row : List ℕ) (long : length row ≡ length all) where
   guard_is : (l : Link) → l.reads < length all → number_in (value_at (map bool_value row) (place_of_var u.externs (read_name all l))) ≡ num c.Bool (pos (slice_index row l.reads))
   guard_is l b =
-      let at = get_there all l.reads b in
+      let at = get_within all l.reads b in
       let name : read_name all l ≡ at.0 = ap (λ (o : Option (List ℕ)). option_map_or (λ (n : List ℕ). n) o []) at.1 in
       let place : place_of_var u.externs (read_name all l) ≡ l.reads = ap (place_of_var u.externs) name ∙ place-is u all once is l.reads at.0 at.1 in
       ap (λ (k : ℕ). number_in (value_at (map bool_value row) k)) place ∙ ap number_in (value_of_row row l.reads (omega (arith, b, long)))

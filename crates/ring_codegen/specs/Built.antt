@@ -9,6 +9,10 @@ use Rattle.stream_core.specs.declared.node.Node.TheVariants as node
 use Rattle.stream_core.specs.declared.spec.ExternItem.{ExternItem}
 use Rattle.stream_core.specs.declared.spec.TriggerItem.{TriggerItem}
 
+-- an extern of Bool, by its name
+abbrev pub bool_item : List ℕ → ExternItem
+bool_item name = record { name = name; ty = ty.Scalar scalar.Bool }
+
 abbrev pub IsExternNode : List Node → ℕ → Type 0
 IsExternNode nodes i = (x : ℕ) × (slice_get nodes i ≡ Some (node.Extern x))
 

@@ -14,15 +14,15 @@ use Rattle.stream_types.specs.declared.types.TypeEntry.TheVariants as entry
 use Rattle.stream_core.specs.declared.spec.ExternItem.{ExternItem}
 use Rattle.stream_core.specs.Term.{TreeSpec, TreeRoot, TreeTrigger}
 use Rattle.stream_core.specs.Handlers.{handlers}
-use Rattle.c99_ast.specs.declared.types.CScalar.{CScalar}
-use Rattle.c99_ast.specs.declared.types.CScalar.TheVariants as c
-use Rattle.c99_ast.specs.declared.types.CTy.{CTy}
-use Rattle.c99_ast.specs.declared.types.CTy.TheVariants as cty
-use Rattle.c99_ast.specs.declared.types.CVar.{CVar}
-use Rattle.c99_ast.specs.declared.types.CDef.{CDef}
-use Rattle.c99_ast.specs.declared.types.CDef.TheVariants as def
-use Rattle.c99_ast.specs.declared.types.CProto.{CProto}
-use Rattle.c99_ast.specs.Words.{word_of}
+use Rattle.c99_tree.specs.declared.types.CScalar.{CScalar}
+use Rattle.c99_tree.specs.declared.types.CScalar.TheVariants as c
+use Rattle.c99_tree.specs.declared.types.CTy.{CTy}
+use Rattle.c99_tree.specs.declared.types.CTy.TheVariants as cty
+use Rattle.c99_tree.specs.declared.types.CVar.{CVar}
+use Rattle.c99_tree.specs.declared.types.CDef.{CDef}
+use Rattle.c99_tree.specs.declared.types.CDef.TheVariants as def
+use Rattle.c99_tree.specs.declared.types.CProto.{CProto}
+use Rattle.c99_tree.specs.Words.{word_of}
 
 -- Bool is `bool`, and the integers are the types of one width (7.18.1.1)
 abbrev pub c_scalar : Scalar → CScalar

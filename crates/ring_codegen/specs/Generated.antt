@@ -7,14 +7,14 @@ use Rattle.stream_core.specs.declared.node.Node.{Node}
 use Rattle.stream_core.specs.declared.node.Node.TheVariants as node
 use Rattle.stream_core.specs.declared.spec.ExternItem.{ExternItem}
 use Rattle.stream_core.specs.declared.spec.TriggerItem.{TriggerItem}
-use Rattle.c99_ast.specs.declared.expr.CExpr.TheVariants as e
-use Rattle.c99_ast.specs.declared.types.CScalar.TheVariants as c
-use Rattle.c99_ast.specs.declared.types.CTy.TheVariants as cty
-use Rattle.c99_ast.specs.declared.types.CVar.{CVar}
-use Rattle.c99_ast.specs.declared.types.CProto.{CProto}
-use Rattle.c99_ast.specs.declared.unit.CStmt.{CStmt}
-use Rattle.c99_ast.specs.declared.unit.CStmt.TheVariants as s
-use Rattle.c99_ast.specs.declared.unit.Unit.{Unit as CUnit}
+use Rattle.c99_tree.specs.declared.expr.CExpr.TheVariants as e
+use Rattle.c99_tree.specs.declared.types.CScalar.TheVariants as c
+use Rattle.c99_tree.specs.declared.types.CTy.TheVariants as cty
+use Rattle.c99_tree.specs.declared.types.CVar.{CVar}
+use Rattle.c99_tree.specs.declared.types.CProto.{CProto}
+use Rattle.c99_tree.specs.declared.unit.CStmt.{CStmt}
+use Rattle.c99_tree.specs.declared.unit.CStmt.TheVariants as s
+use Rattle.c99_tree.specs.declared.unit.Unit.{Unit as CUnit}
 use Rattle.ring_codegen.specs.Built.{IsExternNode}
 
 -- the number of the extern that a node reads

@@ -2,4 +2,4 @@ pub mod CTypes
 pub mod Simulation
 pub mod Built
 pub mod Generated
-pub mod Rows
+pub mod WorkedSpecs

@@ -4,13 +4,13 @@ use Rattle.std.specs.List.{list_any}
 use Rattle.stream_core.specs.Value.{SpecValue}
 use Rattle.stream_core.specs.Handlers.{Call}
 use Rattle.stream_core.specs.Meaning.{closed_spec, IsHistory, Clean, calls, storage}
-use Rattle.c99_ast.specs.declared.unit.Unit.{Unit as CUnit}
-use Rattle.c99_ast.specs.Tree as c
-use Rattle.c99_ast.specs.Tree.{Stmt, statements}
-use Rattle.c99_ast.specs.Step.{Called}
-use Rattle.c99_ast.specs.Run.{run}
-use Rattle.c99_ast.specs.Storage.{storage_of}
-use Rattle.c99_ast.specs.WellFormed.{IsWellFormed, each_after}
+use Rattle.c99_tree.specs.declared.unit.Unit.{Unit as CUnit}
+use Rattle.c99_tree.specs.Tree as c
+use Rattle.c99_tree.specs.Tree.{Stmt, statements}
+use Rattle.c99_tree.specs.Step.{Called}
+use Rattle.c99_tree.specs.Run.{run}
+use Rattle.c99_tree.specs.Storage.{storage_of}
+use Rattle.c99_tree.specs.WellFormed.{IsWellFormed, each_after}
 use Rattle.ring_codegen.specs.CTypes.{c_def, c_extern, c_handlers}
 
 abbrev pub is_copy : Stmt → Bool

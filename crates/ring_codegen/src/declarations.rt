@@ -4,7 +4,7 @@ ghost use Rattle.stream_core.specs.Value.{SpecValue};
 ghost use Rattle.stream_core.specs.Meaning.{handlers};
 ghost use Rattle.ring_codegen.specs.Generated.{bool_var, bare_handler};
 
-use c99_ast::{CProto, CScalar, CTy, CVar};
+use c99_tree::{CProto, CScalar, CTy, CVar};
 use indexmap::IndexSet;
 use sm_io::Seq;
 use std::alloc::{AllocError, Global};

@@ -9,7 +9,7 @@ ghost use Rattle.ring_codegen.specs.Simulation.{Simulates};
 
 use crate::declarations::{copies_storage, extern_vars, handler_protos};
 use crate::statements::step_statements;
-use c99_ast::Unit;
+use c99_tree::Unit;
 use sm_io::{Name, Seq};
 use std::alloc::{AllocError, Global};
 use stream_core::Spec;

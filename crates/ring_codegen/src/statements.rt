@@ -2,7 +2,7 @@
 ghost use Rattle.std.specs.Prelude.{◌≡◌, ◌++◌, map, All, IfOk};
 ghost use Rattle.ring_codegen.specs.Generated.{HasGuard, guard_name, copy_statement, call_statement, step_of};
 
-use c99_ast::{CExpr, CStmt};
+use c99_tree::{CExpr, CStmt};
 use sm_io::{Name, Seq};
 use std::alloc::{AllocError, Global};
 use stream_core::{ExternItem, Node, Spec, TriggerItem};

@@ -1,10 +1,11 @@
 // Worked specifications, and the programs that they give.
 ghost use Rattle.std.specs.Prelude.{◌≡◌, IfOk};
 ghost use Rattle.sm_io.specs.Names.{IsNameBytes};
-ghost use Rattle.ring_codegen.specs.Rows.{bool_item, bare, bare_trigger, empty, door, doors};
+ghost use Rattle.ring_codegen.specs.Built.{bool_item};
+ghost use Rattle.ring_codegen.specs.WorkedSpecs.{bare, bare_trigger, empty, door, doors};
 
 use crate::generate;
-use c99_ast::{CExpr, CProto, CScalar, CStmt, CTy, CVar, Unit};
+use c99_tree::{CExpr, CProto, CScalar, CStmt, CTy, CVar, Unit};
 use sm_io::{Name, Seq};
 use std::alloc::{AllocError, Global};
 use std::test::Fail;

@@ -1,4 +1,6 @@
-pub mod Pieces
+pub mod WrittenParts
 pub mod Keys
 pub mod Shelves
 pub mod Written
+pub mod Truths
+pub mod Elements

@@ -38,6 +38,7 @@ then_text {k = k} {k' = k'} {f = f} {f' = f'} {f'' = f''} {whole = whole} {a = a
       front = (length a + second.front.0, second.front.1 ∙ joined (take second.front.0 b) ∙ ap (after_known k) (sym (take-append-add a b second.front.0)));
       later = omega (arith, first.later, second.later);
       failed = on_false whole (λ (rose : Rose f' f''). omega (arith, first.later, rose)) second.failed;
+      steady = on_true whole (λ e. e ∙ first.steady) second.steady;
     }
 
 -- Only a part of a text is only a part of a longer one.
@@ -47,11 +48,12 @@ longer {k = k} {a = a} b first = record {
   front = (min first.front.0 (length a), first.front.1 ∙ ap (after_known k) (sym (take_front first.front.0 a b)));
   later = first.later;
   failed = first.failed;
+  steady = tt;
 }
 
 -- nothing yet
 pub no_text : {k : Option (List ℕ)} {f : ℕ} → WritesText k k f f true []
-no_text {k = k} = record { all = sym (nothing k); front = (0, sym (nothing k)); later = omega arith; failed = tt }
+no_text {k = k} = record { all = sym (nothing k); front = (0, sym (nothing k)); later = omega arith; failed = tt; steady = refl }
 
 -- ---- lines of a list, one after another
 

@@ -3,7 +3,7 @@ use Rattle.std.specs.Prelude.{ℕ, nat_le, if◌then◌else◌, List, length, Op
 use Rattle.std.specs.FinMap.{get}
 use Rattle.sm_io.specs.Files.{Files}
 use Rattle.sm_io.specs.declared.outside.FetchFault.{FetchFault}
-use Rattle.sm_io.specs.declared.outside.FetchFault.TheVariants.{Missing, TooLong}
+use Rattle.sm_io.specs.declared.outside.FetchFault.TheVariants.{Missing, TooLong, Failed, Memory}
 
 -- what stands under a name, if it is there and within the limit
 abbrev pub found : Option (List ℕ) → ℕ → Result (List ℕ) FetchFault
@@ -12,3 +12,10 @@ found (Some bytes) limit = if nat_le (length bytes) limit then Ok bytes else Err
 
 abbrev pub fetched : Files → List ℕ → ℕ → Result (List ℕ) FetchFault
 fetched files name limit = found (get files name) limit
+
+-- the number of each reason
+abbrev pub fetch_fault_code : FetchFault → ℕ
+fetch_fault_code Missing = 1
+fetch_fault_code TooLong = 2
+fetch_fault_code Failed = 3
+fetch_fault_code Memory = 4

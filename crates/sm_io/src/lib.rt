@@ -1,5 +1,8 @@
-//! The outside of the tool: sources, sinks and shelves by what they hold and how often they failed, and the
-//! small types that contracts see as lists and numbers.
+//! The outside of the tool, and the small types that contracts see as lists and numbers.
+//! In: bytes, names and files. Out: sources, sinks and shelves by what they hold and how often they failed; `Name`,
+//! `Text`, `Seq` and `Steps`.
+//! specs/Known.antt says what a source has left and a sink took, specs/Files.antt and specs/Fetch.antt what a shelf
+//! holds and fetches, specs/Causes.antt when a fault is answered, specs/Words.antt which bytes are a name.
 #![tactic(auto)]
 
 mod mem_shelf;

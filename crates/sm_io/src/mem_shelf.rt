@@ -7,7 +7,7 @@ ghost use Rattle.std.specs.Cmp.Lexicographic.{slice_cmp};
 ghost use Rattle.sm_io.specs.Causes.{HasCause, Rose};
 ghost use Rattle.sm_io.specs.Memory.{Shelved, is_failing, faults_of, after_call, after_failed_call, after_put, after_starved_put};
 ghost use Rattle.sm_io.specs.Files.{with_file, SameBut};
-ghost use Rattle.sm_io.specs.Answers.{Fetches};
+ghost use Rattle.sm_io.specs.FetchAnswers.{Fetches};
 
 use crate::names::Text;
 use crate::outside::{Failed, FetchFault, Shelf};
@@ -127,6 +127,7 @@ impl Shelf for MemShelf {
         ensures same { Some self.new.files ≡ Some self.old.files }
         ensures later { faults_of self.old ≤ faults_of self.new }
         ensures failed { IsErrOf result FetchFault.Failed → Rose (faults_of self.old) (faults_of self.new) }
+        ensures steady { ¬ IsErrOf result FetchFault.Failed → faults_of self.new ≡ faults_of self.old }
         ensures numbered { IsErrOf result FetchFault.Failed ↔ (is_failing self.old.fails self.old.calls ≡ true) }
         ensures after { MatchBool (is_failing self.old.fails self.old.calls) (self.new ≡ after_failed_call self.old) (self.new ≡ after_call self.old) }
     {

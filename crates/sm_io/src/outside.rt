@@ -1,8 +1,9 @@
 // Where bytes come from and go to.
-ghost use Rattle.std.specs.Prelude.{◌≡◌, ◌<◌, ◌≤◌, ◌≢◌, List, ℕ, Option, length, drop, IfOk, OnOk, OnErr, IfSome, IsErrOf, is_ok, vec_len};
+ghost use Rattle.std.specs.Prelude.{◌≡◌, ◌<◌, ◌≤◌, List, ℕ, Option, length, drop, IfOk, OnOk, OnErr, IfSome, IsErrOf, is_ok, vec_len};
 ghost use Rattle.std.specs.List.{flat_map};
 ghost use Rattle.std.specs.Io.{ReadsAtMost, WritesAtMost};
 ghost use Rattle.sm_io.specs.Causes.{HasCause, Rose};
+ghost use Rattle.sm_io.specs.Fetch.{fetch_fault_code};
 ghost use Rattle.sm_io.specs.Known.{Reads, EndsWell, Writes};
 ghost use Rattle.sm_io.specs.Written.{WritesText};
 
@@ -27,8 +28,22 @@ pub enum FetchFault {
     Memory,
 }
 
+impl FetchFault {
+    /// Its number: 1 for Missing, 2 for TooLong, 3 for Failed, 4 for Memory.
+    pub fn code(&self) -> u8
+        ensures { result ≡ fetch_fault_code self.now }
+    {
+        match self {
+            FetchFault::Missing => 1,
+            FetchFault::TooLong => 2,
+            FetchFault::Failed => 3,
+            FetchFault::Memory => 4,
+        }
+    }
+}
+
 /// Where bytes come from. Whether it tells the bytes that are left never changes, and its count of faults never
-/// falls.
+/// falls, and stays where the answer is `Ok`.
 pub trait Source {
     /// The bytes that are left, where it tells them.
     ghost left: { Self → Option (List ℕ) };
@@ -45,7 +60,8 @@ pub trait Source {
         ensures cause { HasCause (faults self.old) (faults self.new) result };
 }
 
-/// Where bytes go to. Whether it tells the bytes that it took never changes, and its count of faults never falls.
+/// Where bytes go to. Whether it tells the bytes that it took never changes, and its count of faults never falls,
+/// and stays where the answer is `Ok`.
 pub trait Sink {
     /// The bytes that it took, where it tells them.
     ghost taken: { Self → Option (List ℕ) };
@@ -62,10 +78,11 @@ pub trait Sink {
         ensures cause { HasCause (faults self.old) (faults self.new) result };
 }
 
-/// A place for files, by their names. Whether it tells them never changes, and its count of faults never falls.
+/// A place for files, by their names. Whether it tells them never changes, and its count of faults never falls, and
+/// stays on any answer but `Failed`.
 pub trait Shelf {
     ghost use Rattle.sm_io.specs.Files.{Files, with_file, SameBut};
-    ghost use Rattle.sm_io.specs.Answers.{Fetches};
+    ghost use Rattle.sm_io.specs.FetchAnswers.{Fetches};
 
     /// The files by their names, where it tells them.
     ghost files: { Self → Option Files };
@@ -74,13 +91,14 @@ pub trait Shelf {
     ghost faults: { Self → ℕ };
 
     /// The bytes of a file of at most `limit` bytes. No fetch changes a file. `Failed` comes only where the count
-    /// rose.
+    /// rose, and any other answer only where it stayed.
     fn fetch(&mut self, alloc: Global, name: &str, limit: usize) -> Result<Vec<u8>, FetchFault>
         ensures within { IfOk result (λ bytes. vec_len bytes ≤ limit) }
         ensures found { IfSome (files self.old) (λ m. Fetches m name.now limit result) }
         ensures same { files self.new ≡ files self.old }
         ensures later { faults self.old ≤ faults self.new }
-        ensures failed { IsErrOf result FetchFault.Failed → Rose (faults self.old) (faults self.new) };
+        ensures failed { IsErrOf result FetchFault.Failed → Rose (faults self.old) (faults self.new) }
+        ensures steady { ¬ IsErrOf result FetchFault.Failed → faults self.new ≡ faults self.old };
 
     /// Replaces the bytes of a file. `Failed` comes only where the count rose, and the file is then unknown. All
     /// other files are as they were.

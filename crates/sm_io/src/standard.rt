@@ -2,7 +2,7 @@
 //
 // A call of std that was interrupted is made again and counts as no fault, and neither does an absent file. Every
 // other error of std raises the count by one.
-ghost use Rattle.std.specs.Prelude.{◌≤◌, IfOk, None, vec_len};
+ghost use Rattle.std.specs.Prelude.{◌≡◌, ◌≤◌, IfOk, None, vec_len};
 
 use crate::outside::{Failed, FetchFault, Shelf, Sink, Source};
 use std::alloc::Global;
@@ -18,8 +18,10 @@ pub struct StdSource<R: Read> {
 }
 
 impl<R: Read> StdSource<R> {
-    /// The source over a reader.
-    pub fn new(reader: R) -> StdSource<R> {
+    /// The source over a reader, without a fault so far.
+    pub fn new(reader: R) -> StdSource<R>
+        ensures { result.faults ≡ 0 }
+    {
         StdSource { reader, faults: 0 }
     }
 }
@@ -50,8 +52,10 @@ pub struct StdSink<W: Write> {
 }
 
 impl<W: Write> StdSink<W> {
-    /// The sink over a writer.
-    pub fn new(writer: W) -> StdSink<W> {
+    /// The sink over a writer, without a fault so far.
+    pub fn new(writer: W) -> StdSink<W>
+        ensures { result.faults ≡ 0 }
+    {
         StdSink { writer, faults: 0 }
     }
 }
@@ -82,8 +86,10 @@ pub struct DirShelf<R: Files> {
 }
 
 impl<R: Files> DirShelf<R> {
-    /// The shelf over a runtime's files.
-    pub fn new(rt: R) -> DirShelf<R> {
+    /// The shelf over a runtime's files, without a fault so far.
+    pub fn new(rt: R) -> DirShelf<R>
+        ensures { result.faults ≡ 0 }
+    {
         DirShelf { rt, faults: 0 }
     }
 }

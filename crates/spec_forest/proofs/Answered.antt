@@ -7,9 +7,9 @@ use Rattle.spec_forest.specs.declared.scan.Scanner.{Scanner}
 use Rattle.spec_forest.specs.Node.{forest_nodes}
 use Rattle.spec_forest.specs.Scan.{scan_fault}
 use Rattle.spec_forest.specs.Tokens.{forest_tokens, IsForestOf}
-use Rattle.spec_forest.specs.Sizes.{nesting, list_count, item_count, IsWithin}
+use Rattle.spec_forest.specs.Extents.{nesting, list_count, item_count, IsWithin}
 use Rattle.spec_forest.specs.Answers.{TellsFault}
-use Rattle.spec_forest.specs.Scanning.{Stands, held, levels, Finishes}
+use Rattle.spec_forest.specs.Scanning.{IsScanned, held, levels, Finishes}
 use Rattle.spec_forest.proofs.Faults.{unclosed, no-fault, all-tokens}
 use Rattle.spec_forest.proofs.Bounds.{few-lists, few-items, within-text, shallow}
 
@@ -32,11 +32,11 @@ answered-ok text f e is = record {
   places = within-text text (forest_nodes f) is;
 }
 
-forest-here : (text : List ℕ) (s : Scanner) (f : Forest) → Stands text (length text) (levels s) (held s) → forest_tokens (forest_nodes f) ≡ held s → IsForestOf text (forest_nodes f)
+forest-here : (text : List ℕ) (s : Scanner) (f : Forest) → IsScanned text (length text) (levels s) (held s) → forest_tokens (forest_nodes f) ≡ held s → IsForestOf text (forest_nodes f)
 unfolding IsForestOf
 forest-here text s f h e = all-tokens text (levels s) (held s) h ∙ sym e
 
-finished : (text : List ℕ) (s : Scanner) (r : Result Forest ScanFault) → Stands text (length text) (levels s) (held s) → length text ≤ 1048576 → Finishes s (length text) r → Answered text r
+finished : (text : List ℕ) (s : Scanner) (r : Result Forest ScanFault) → IsScanned text (length text) (levels s) (held s) → length text ≤ 1048576 → Finishes s (length text) r → Answered text r
 finished text s (Ok f) h short a = answered-ok text f (no-fault text (levels s) (held s) h short a.0) (forest-here text s f h a.1)
 finished text s (Err TextTooLong) h short a = absurd a
 finished text s (Err (BadByte k)) h short a = absurd a
@@ -52,9 +52,9 @@ finished text s (Err (Unbalanced k)) h short a = record {
 }
 
 -- the same where the scan came past the last byte
-pub finished-at : (text : List ℕ) (k : ℕ) (s : Scanner) (r : Result Forest ScanFault) → length text ≤ k → Stands text k (levels s) (held s) → length text ≤ 1048576 → Finishes s k r → Answered text r
+pub finished-at : (text : List ℕ) (k : ℕ) (s : Scanner) (r : Result Forest ScanFault) → length text ≤ k → IsScanned text k (levels s) (held s) → length text ≤ 1048576 → Finishes s k r → Answered text r
 finished-at text k s r past h short a =
     let e : k ≡ length text = omega (arith, h.low, past) in
-    let P : ℕ → Type 0 = λ n. Stands text n (levels s) (held s) in
+    let P : ℕ → Type 0 = λ n. IsScanned text n (levels s) (held s) in
     let Q : ℕ → Type 0 = λ n. Finishes s n r in
     finished text s r (subst P e h) short (subst Q e a)

@@ -4,11 +4,10 @@ use Rattle.std.specs.Prelude.{◌==◌, ◌&&◌, slice_index, if◌then◌else�
 use Rattle.std.specs.List.{take_while}
 use Rattle.std.proofs.lemmas.Bool.{eqb-true}
 use Rattle.std.proofs.lemmas.Bool.Decides.{nat_tests}
-use Rattle.spec_forest.specs.declared.fault.ScanFault.TheVariants.{TextTooLong, Unbalanced, TooDeep}
 use Rattle.spec_forest.specs.Node.{Node, Nodes, atom, list, none, more}
-use Rattle.spec_forest.specs.Scan.{longest_text, is_left, is_right, deepest, count_below, earlier, first_below, commented, opens, closes, depth, fault_at, scan_fault}
+use Rattle.spec_forest.specs.Scan.{text_too_long, unbalanced, too_deep, longest_text, is_left, is_right, deepest, count_below, earlier, first_below, commented, opens, closes, depth, fault_at, scan_fault}
 use Rattle.spec_forest.specs.Tokens.{Token, left, right, word, is_letter, is_fresh, token_of, token_at, tokens_before, tokens, node_tokens, forest_tokens, IsForestOf}
-use Rattle.spec_forest.specs.Sizes.{node_nesting, nesting, node_lists, list_count, node_items, item_count, NodeIsWithin, IsWithin}
+use Rattle.spec_forest.specs.Extents.{node_nesting, nesting, node_lists, list_count, node_items, item_count, NodeIsWithin, IsWithin}
 use Rattle.spec_forest.proofs.Shown.{Adds, commented_adds, left_adds, right_adds}
 use Rattle.spec_forest.proofs.OneForest.{items-then}
 
@@ -61,7 +60,7 @@ unfolding scan_fault
 short-text text e = at (nat_lt longest_text (length text)) refl where
   at : (v : Bool) → nat_lt longest_text (length text) ≡ v → length text ≤ longest_text
   at false t = grind (arith, nat_tests)
-  at true t = absurd (let no : Some TextTooLong ≡ None = rw (t) at e in cc)
+  at true t = absurd (let no : Some text_too_long ≡ None = rw (t) at e in cc)
 
 whole-size : (text : List ℕ) (f : Nodes) → IsForestOf text f → list_count f + item_count f ≤ length text
 unfolding IsForestOf tokens
@@ -218,11 +217,11 @@ room-step text k s clean = at (commented text k) refl where
 
   by_left : commented text k ≡ false → slice_index text k ≡ 40 → Room text (suc k)
   by_left c b = deep (depth text k == deepest) refl where
-    a : Adds text k (left k ∷ []) true false (if depth text k == deepest then Some (TooDeep k) else None)
+    a : Adds text k (left k ∷ []) true false (if depth text k == deepest then Some (too_deep k) else None)
     a = left_adds text k c b
 
     deep : (v : Bool) → (depth text k == deepest) ≡ v → Room text (suc k)
-    deep true e = absurd (let no : None ≡ Some (TooDeep k) = sym clean ∙ a.fault ∙ ap (λ x. if x then Some (TooDeep k) else None) e in cc)
+    deep true e = absurd (let no : None ≡ Some (too_deep k) = sym clean ∙ a.fault ∙ ap (λ x. if x then Some (too_deep k) else None) e in cc)
     deep false e =
         let shallow : count_below k (opens text) - count_below k (closes text) ≡ 64 → ⊥ = λ h. (let full : depth text k ≡ 64 = depth-is text k ∙ h in let no : true ≡ false = sym (ap (λ d. d == deepest) full) ∙ e in cc) in
         let some : 0 < room_after 64 (tokens_before text k) = omega (arith, s.left_over, s.balance, shallow) in
@@ -230,11 +229,11 @@ room-step text k s clean = at (commented text k) refl where
 
   by_right : commented text k ≡ false → slice_index text k ≡ 41 → Room text (suc k)
   by_right c b = deep (depth text k == 0) refl where
-    a : Adds text k (right ∷ []) false true (if depth text k == 0 then Some (Unbalanced k) else None)
+    a : Adds text k (right ∷ []) false true (if depth text k == 0 then Some (unbalanced k) else None)
     a = right_adds text k c b
 
     deep : (v : Bool) → (depth text k == 0) ≡ v → Room text (suc k)
-    deep true e = absurd (let no : None ≡ Some (Unbalanced k) = sym clean ∙ a.fault ∙ ap (λ x. if x then Some (Unbalanced k) else None) e in cc)
+    deep true e = absurd (let no : None ≡ Some (unbalanced k) = sym clean ∙ a.fault ∙ ap (λ x. if x then Some (unbalanced k) else None) e in cc)
     deep false e =
         let some : count_below k (opens text) - count_below k (closes text) ≡ 0 → ⊥ = λ h. (let full : depth text k ≡ 0 = depth-is text k ∙ h in let no : true ≡ false = sym (ap (λ d. d == 0) full) ∙ e in cc) in
         room-one text k (right ∷ []) false true s a.begins a.lefts a.rights tt (omega arith) (omega (arith, s.balance, some))
@@ -256,8 +255,8 @@ no-byte-fault : (text : List ℕ) → scan_fault text ≡ None → first_below (
 unfolding scan_fault
 no-byte-fault text e = at (nat_lt longest_text (length text)) refl where
   at : (v : Bool) → nat_lt longest_text (length text) ≡ v → first_below (length text) (fault_at text) ≡ None
-  at true t = absurd (let no : Some TextTooLong ≡ None = rw (t) at e in cc)
-  at false t = (earlier-parts (first_below (length text) (fault_at text)) (if depth text (length text) == 0 then None else Some (Unbalanced (length text))) (rw (t) at e)).0
+  at true t = absurd (let no : Some text_too_long ≡ None = rw (t) at e in cc)
+  at false t = (earlier-parts (first_below (length text) (fault_at text)) (if depth text (length text) == 0 then None else Some (unbalanced (length text))) (rw (t) at e)).0
 
 pub shallow : (text : List ℕ) (f : Nodes) → scan_fault text ≡ None → IsForestOf text f → nesting f ≤ 64
 unfolding IsForestOf tokens

@@ -3,16 +3,10 @@ use Rattle.std.proofs.Common.{◌≡◌, ℕ, zero, suc, ◌<◌, Bool, true, fa
 use Rattle.std.specs.Prelude.{◌&&◌, ◌||◌, nat_le, slice_index}
 use Rattle.std.proofs.lemmas.Bool.Decides.{nat_tests}
 use Rattle.spec_forest.specs.Scan.{is_break, is_mark, some_below, has_break, commented}
+use Rattle.sm_io.proofs.Truths.{or_spreads}
+use Rattle.std.proofs.Math.Bool.{and-true, or-false}
 
 -- ---- truth values
-
-and-true : (x : Bool) → (x && true) ≡ x
-and-true true = refl
-and-true false = refl
-
-or-false : (x : Bool) → (x || false) ≡ x
-or-false true = refl
-or-false false = refl
 
 apart : (m b h : Bool) → (m && not (b || h)) ≡ ((m && not h) && not b)
 apart true true true = refl
@@ -20,13 +14,6 @@ apart true true false = refl
 apart true false true = refl
 apart true false false = refl
 apart false b h = refl
-
-spread : (a b c : Bool) → ((a && c) || (b && c)) ≡ ((a || b) && c)
-spread true true true = refl
-spread true true false = refl
-spread true false true = refl
-spread true false false = refl
-spread false b c = refl
 
 -- ---- numbers below n
 
@@ -44,7 +31,7 @@ some-none (suc n) p h =
 
 some-and : (n : ℕ) (p : ℕ → Bool) (c : Bool) → some_below n (λ j. p j && c) ≡ (some_below n p && c)
 some-and zero p c = refl
-some-and (suc n) p c = ap (λ x. (p n && c) || x) (some-and n p c) ∙ spread (p n) (some_below n p) c
+some-and (suc n) p c = ap (λ x. (p n && c) || x) (some-and n p c) ∙ or_spreads (p n) (some_below n p) c
 
 -- ---- comments
 

@@ -1,14 +1,14 @@
 pub mod Comments
 pub mod ByteFacts
 pub mod Shown
-pub mod Stands
+pub mod ScanSteps
 pub mod Faults
 pub mod OneForest
 pub mod Bounds
 pub mod Holding
 pub mod Taken
 pub mod Answered
-pub mod Reading
+pub mod PiecesRead
 pub mod Shapes
 pub mod Pages
 pub mod SameSizes

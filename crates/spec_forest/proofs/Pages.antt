@@ -3,7 +3,7 @@ use Rattle.std.proofs.Common.{◌≡◌, ℕ, ◌≤◌, List, [], ◌∷◌, �
 use Rattle.spec_forest.specs.Node.{Node, Nodes, atom, list, none, more}
 use Rattle.spec_forest.specs.Scan.{longest_text, deepest, scan_fault}
 use Rattle.spec_forest.specs.Tokens.{left, right, word, node_tokens, forest_tokens, IsForestOf}
-use Rattle.spec_forest.specs.Sizes.{nesting}
+use Rattle.spec_forest.specs.Extents.{nesting}
 use Rattle.spec_forest.specs.Pieces.{Piece, opening, closing, letters, gap, pieces_text, BeginsWithNoWord, AreParted, node_unplaced, unplaced, SameShape, bare_tokens, LaysOut}
 use Rattle.spec_forest.specs.Layout.{IsWord, NodeHasWords, HasWords, node_text, line_text, lines_text, page_text, page_nodes}
 use Rattle.spec_forest.proofs.OneForest.{items-then}

@@ -1,7 +1,7 @@
 -- Forests that are equal but for places have one size.
 use Rattle.std.proofs.Common.{◌≡◌, ◌+◌, max, refl, ap, sym, ◌∙◌}
 use Rattle.spec_forest.specs.Node.{Node, Nodes, atom, list, none, more}
-use Rattle.spec_forest.specs.Sizes.{node_nesting, nesting, node_lists, list_count, node_items, item_count}
+use Rattle.spec_forest.specs.Extents.{node_nesting, nesting, node_lists, list_count, node_items, item_count}
 use Rattle.spec_forest.specs.Pieces.{node_unplaced, unplaced, SameShape}
 
 mutual

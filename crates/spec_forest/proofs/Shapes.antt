@@ -4,10 +4,10 @@ use Rattle.std.proofs.lemmas.List.{map-append}
 use Rattle.spec_forest.specs.Node.{Node, Nodes, atom, list, none, more}
 use Rattle.spec_forest.specs.Scan.{longest_text, deepest, scan_fault}
 use Rattle.spec_forest.specs.Tokens.{Token, left, right, word, tokens, node_tokens, forest_tokens, IsForestOf}
-use Rattle.spec_forest.specs.Sizes.{node_nesting, nesting}
+use Rattle.spec_forest.specs.Extents.{node_nesting, nesting}
 use Rattle.spec_forest.specs.Pieces.{Piece, opening, closing, letters, gap, pieces_text, AreParted, StaysWithin, piece_tokens, node_unplaced, unplaced, SameShape, bare_tokens, LaysOut}
 use Rattle.spec_forest.proofs.OneForest.{same-forest, items-then}
-use Rattle.spec_forest.proofs.Reading.{pieces-tokens, pieces-sound}
+use Rattle.spec_forest.proofs.PiecesRead.{pieces-tokens, pieces-sound}
 
 abbrev pub bare : Token → Token
 bare (left k) = left 0

@@ -2,20 +2,19 @@
 use Rattle.std.proofs.Common.{◌≡◌, ℕ, zero, suc, ◌+◌, ◌<◌, ◌≤◌, Bool, true, false, List, [], ◌∷◌, length, drop, Option, Some, None, refl, ap, sym, ◌∙◌, arith, add-zero, add-suc, append-nil}
 use Rattle.std.specs.Prelude.{◌&&◌, ◌||◌, ◌==◌, slice_index, if◌then◌else◌}
 use Rattle.std.specs.List.{take_while}
-use Rattle.spec_forest.specs.declared.fault.ScanFault.{ScanFault}
-use Rattle.spec_forest.specs.declared.fault.ScanFault.TheVariants.{BadByte, Unbalanced, TooDeep}
-use Rattle.spec_forest.specs.Scan.{is_break, is_blank, is_mark, is_allowed, deepest, count_below, earlier, first_below, commented, opens, closes, depth, fault_at}
+use Rattle.spec_forest.specs.Scan.{TextFault, bad_byte, unbalanced, too_deep, is_break, is_blank, is_mark, is_allowed, deepest, count_below, earlier, first_below, commented, opens, closes, depth, fault_at}
 use Rattle.spec_forest.specs.Tokens.{Token, left, right, word, is_letter, is_fresh, token_at, tokens_before}
 use Rattle.spec_forest.specs.Scanning.{Boundary}
 use Rattle.spec_forest.proofs.Comments.{commented-suc}
 use Rattle.spec_forest.proofs.ByteFacts.{letter_is, blank_is}
+use Rattle.std.proofs.Math.Bool.{or-false}
 
 -- what a text shows before a place
 pub record Seen : Type 0 where
   pub known : List Token
   pub lefts : ℕ
   pub rights : ℕ
-  pub fault : Option ScanFault
+  pub fault : Option TextFault
 
 abbrev pub seen : List ℕ → ℕ → Seen
 seen text k = record { known = tokens_before text k; lefts = count_below k (opens text); rights = count_below k (closes text); fault = first_below k (fault_at text) }
@@ -27,7 +26,7 @@ earlier-none (Some x) = refl
 -- ---- one byte
 
 -- what a byte adds
-pub record Adds (text : List ℕ) (k : ℕ) (ts : List Token) (l r : Bool) (f : Option ScanFault) : Type 0 where
+pub record Adds (text : List ℕ) (k : ℕ) (ts : List Token) (l r : Bool) (f : Option TextFault) : Type 0 where
   pub begins : token_at text k ≡ ts
   pub lefts : opens text k ≡ l
   pub rights : closes text k ≡ r
@@ -78,16 +77,16 @@ word_adds text k c b f =
     }
 
 pub left_adds : (text : List ℕ) (k : ℕ) → commented text k ≡ false → slice_index text k ≡ 40
-    → Adds text k (left k ∷ []) true false (if depth text k == deepest then Some (TooDeep k) else None)
+    → Adds text k (left k ∷ []) true false (if depth text k == deepest then Some (too_deep k) else None)
 unfolding token_at opens closes fault_at
 left_adds text k c b = record { begins = rw (c, b) refl; lefts = rw (c, b) refl; rights = rw (c, b) refl; fault = rw (c, b) refl }
 
 pub right_adds : (text : List ℕ) (k : ℕ) → commented text k ≡ false → slice_index text k ≡ 41
-    → Adds text k (right ∷ []) false true (if depth text k == 0 then Some (Unbalanced k) else None)
+    → Adds text k (right ∷ []) false true (if depth text k == 0 then Some (unbalanced k) else None)
 unfolding token_at opens closes fault_at
 right_adds text k c b = record { begins = rw (c, b) refl; lefts = rw (c, b) refl; rights = rw (c, b) refl; fault = rw (c, b) refl }
 
-pub bad_adds : (text : List ℕ) (k : ℕ) → commented text k ≡ false → is_allowed (slice_index text k) ≡ false → fault_at text k ≡ Some (BadByte k)
+pub bad_adds : (text : List ℕ) (k : ℕ) → commented text k ≡ false → is_allowed (slice_index text k) ≡ false → fault_at text k ≡ Some (bad_byte k)
 unfolding fault_at
 bad_adds text k c b = rw (c, b) refl
 
@@ -98,10 +97,7 @@ pub boundary-next : (text : List ℕ) (k : ℕ) → commented text k ≡ false �
 boundary-next text k c b = record {
   clear = λ _. rw (commented-suc text k, c) (or-false (is_mark (slice_index text (suc k))));
   fresh = λ _. rw b refl;
-} where
-  or-false : (x : Bool) → (x || false) ≡ x
-  or-false true = refl
-  or-false false = refl
+}
 
 -- behind a line feed
 pub boundary-line : (text : List ℕ) (k : ℕ) → is_break (slice_index text k) ≡ true → Boundary text (suc k)

@@ -2,7 +2,7 @@ pub mod Node
 pub mod NodeLaws
 pub mod Scan
 pub mod Tokens
-pub mod Sizes
+pub mod Extents
 pub mod Answers
 pub mod Scanning
 pub mod Pieces

@@ -1,7 +1,12 @@
 -- Comments, depth, and the first fault of scanning a text.
 use Rattle.std.specs.Prelude.{ℕ, zero, suc, ◌+◌, ◌-◌, Bool, false, not, ◌==◌, ◌&&◌, ◌||◌, if◌then◌else◌, nat_lt, nat_le, List, length, slice_index, Option, Some, None}
-use Rattle.spec_forest.specs.declared.fault.ScanFault.{ScanFault}
-use Rattle.spec_forest.specs.declared.fault.ScanFault.TheVariants.{TextTooLong, BadByte, Unbalanced, TooDeep}
+
+-- what is wrong with a text, and at which byte
+pub data TextFault : Type 0 where
+  text_too_long : TextFault
+  bad_byte : ℕ → TextFault
+  unbalanced : ℕ → TextFault
+  too_deep : ℕ → TextFault
 
 -- the most bytes of a text
 abbrev pub longest_text : ℕ
@@ -80,23 +85,23 @@ depth text k = count_below k (opens text) - count_below k (closes text)
 -- ---- faults
 
 -- what is wrong with byte b at place k, where d lists are open
-abbrev pub byte_fault : ℕ → ℕ → ℕ → Option ScanFault
+abbrev pub byte_fault : ℕ → ℕ → ℕ → Option TextFault
 byte_fault b k d =
-    if not (is_allowed b) then Some (BadByte k)
-    else if is_right b && d == 0 then Some (Unbalanced k)
-    else if is_left b && d == deepest then Some (TooDeep k)
+    if not (is_allowed b) then Some (bad_byte k)
+    else if is_right b && d == 0 then Some (unbalanced k)
+    else if is_left b && d == deepest then Some (too_deep k)
     else None
 
 -- what is wrong at place k
-unfoldable pub fault_at : List ℕ → ℕ → Option ScanFault
+unfoldable pub fault_at : List ℕ → ℕ → Option TextFault
 fault_at text k = if commented text k then None else byte_fault (slice_index text k) k (depth text k)
 
 -- what is wrong at the end of a text of n bytes, where d lists are open
-abbrev pub end_fault : ℕ → ℕ → Option ScanFault
-end_fault n d = if d == 0 then None else Some (Unbalanced n)
+abbrev pub end_fault : ℕ → ℕ → Option TextFault
+end_fault n d = if d == 0 then None else Some (unbalanced n)
 
 -- the first fault of a text: its length, the least place with a fault, the end
-unfoldable pub scan_fault : List ℕ → Option ScanFault
+unfoldable pub scan_fault : List ℕ → Option TextFault
 scan_fault text =
-    if nat_lt longest_text (length text) then Some TextTooLong
+    if nat_lt longest_text (length text) then Some text_too_long
     else earlier (first_below (length text) (fault_at text)) (end_fault (length text) (depth text (length text)))

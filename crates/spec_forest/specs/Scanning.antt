@@ -1,5 +1,5 @@
 -- Where a scan stands, and what its parts answer.
-use Rattle.std.specs.Prelude.{◌≡◌, ℕ, ◌+◌, ◌<◌, ◌≤◌, true, false, List, [], ◌∷◌, ◌++◌, map, length, slice_index, None, Some, Result, Ok, Err}
+use Rattle.std.specs.Prelude.{◌≡◌, ℕ, ◌+◌, ◌<◌, ◌≤◌, true, false, List, [], ◌∷◌, ◌++◌, map, length, slice_index, None, Some, IfSome, Result, Ok, Err}
 use Rattle.std.specs.List.{flat_map}
 use Rattle.spec_forest.specs.declared.fault.ScanFault.{ScanFault}
 use Rattle.spec_forest.specs.declared.fault.ScanFault.TheVariants.{Unbalanced, TooDeep, Memory}
@@ -11,6 +11,7 @@ use Rattle.spec_forest.specs.declared.scan.Level.{Level}
 use Rattle.spec_forest.specs.declared.scan.Scanner.{Scanner}
 use Rattle.spec_forest.specs.Node.{nodes, node, forest_nodes}
 use Rattle.spec_forest.specs.Scan.{is_blank, is_mark, is_allowed, deepest, count_below, first_below, commented, opens, closes, fault_at, scan_fault}
+use Rattle.spec_forest.specs.Answers.{text_fault}
 use Rattle.spec_forest.specs.Tokens.{Token, left, right, is_letter, is_fresh, tokens_before, forest_tokens}
 
 -- what a byte of each kind is
@@ -28,7 +29,7 @@ pub record Boundary (text : List ℕ) (k : ℕ) : Type 0 where
   pub fresh : is_letter (slice_index text k) ≡ true → is_fresh text k ≡ true
 
 -- The text before k shows these tokens, d lists are open, and nothing is wrong so far.
-pub record Stands (text : List ℕ) (k d : ℕ) (held : List Token) : Type 0 where
+pub record IsScanned (text : List ℕ) (k d : ℕ) (held : List Token) : Type 0 where
   pub low : k ≤ length text
   pub boundary : Boundary text k
   pub sound : first_below k (fault_at text) ≡ None
@@ -65,9 +66,8 @@ Leaves old at new (Err Memory) = Unit {0}
 Leaves old at new (Err _) = ⊥
 
 abbrev pub Takes : List ℕ → ℕ → Scanner → Result ℕ ScanFault → Type 0
-Takes text at new (Ok n) = (0 < n) × Stands text (at + n) (levels new) (held new)
-Takes text at new (Err Memory) = Unit {0}
-Takes text at new (Err fault) = scan_fault text ≡ Some fault
+Takes text at new (Ok n) = (0 < n) × IsScanned text (at + n) (levels new) (held new)
+Takes text at new (Err e) = IfSome (text_fault e) (λ fault. scan_fault text ≡ Some fault)
 
 abbrev pub Finishes : Scanner → ℕ → Result Forest ScanFault → Type 0
 Finishes old at (Ok f) = (levels old ≡ 0) × (forest_tokens (forest_nodes f) ≡ held old)

@@ -3,7 +3,7 @@ ghost use Rattle.std.specs.Prelude.{◌≡◌, ℕ, ◌≤◌, List, length, Non
 ghost use Rattle.spec_forest.specs.Node.{Nodes};
 ghost use Rattle.spec_forest.specs.Scan.{scan_fault};
 ghost use Rattle.spec_forest.specs.Tokens.{tokens, IsForestOf};
-ghost use Rattle.spec_forest.specs.Sizes.{nesting, list_count, item_count};
+ghost use Rattle.spec_forest.specs.Extents.{nesting, list_count, item_count};
 ghost use Rattle.spec_forest.specs.Pieces.{Piece, pieces_text, AreParted, StaysWithin, piece_tokens, SameShape, LaysOut};
 ghost use Rattle.spec_forest.specs.Layout.{IsWord, HasWords, page_text, page_nodes};
 
@@ -21,17 +21,26 @@ pub fn pieces_are_read()
 
 /// A forest that is laid out in pieces is read back as the same forest, but for places.
 pub fn layouts_are_read()
-    ensures sound { (ps : List Piece) (f : Nodes) → AreParted ps → LaysOut ps f → nesting f ≤ 64 → length (pieces_text ps) ≤ 1048576 → scan_fault (pieces_text ps) ≡ None }
-    ensures some { (ps : List Piece) (f : Nodes) → AreParted ps → LaysOut ps f → nesting f ≤ 64 → length (pieces_text ps) ≤ 1048576 → (g : Nodes) × IsForestOf (pieces_text ps) g }
-    ensures each { (ps : List Piece) (f g : Nodes) → AreParted ps → LaysOut ps f → nesting f ≤ 64 → length (pieces_text ps) ≤ 1048576 → IsForestOf (pieces_text ps) g → SameShape g f }
+    ensures sound { (ps : List Piece) (f : Nodes) → AreParted ps → LaysOut ps f → nesting f ≤ 64 → length (pieces_text ps) ≤ 1048576
+        → scan_fault (pieces_text ps) ≡ None }
+    ensures some { (ps : List Piece) (f : Nodes) → AreParted ps → LaysOut ps f → nesting f ≤ 64 → length (pieces_text ps) ≤ 1048576
+        → (g : Nodes) × IsForestOf (pieces_text ps) g }
+    ensures each { (ps : List Piece) (f g : Nodes) → AreParted ps → LaysOut ps f → nesting f ≤ 64 → length (pieces_text ps) ≤ 1048576
+        → IsForestOf (pieces_text ps) g → SameShape g f }
 {}
 
 /// A list that begins with two words, with each further item on a line of its own and single spaces within the
 /// lines, is read back as that list, but for places.
 pub fn pages_are_read()
-    ensures sound { (head name : List ℕ) (items : Nodes) → IsWord head → IsWord name → HasWords items → nesting (page_nodes head name items) ≤ 64 → length (page_text head name items) ≤ 1048576 → scan_fault (page_text head name items) ≡ None }
-    ensures some { (head name : List ℕ) (items : Nodes) → IsWord head → IsWord name → HasWords items → nesting (page_nodes head name items) ≤ 64 → length (page_text head name items) ≤ 1048576 → (g : Nodes) × IsForestOf (page_text head name items) g }
-    ensures each { (head name : List ℕ) (items g : Nodes) → IsWord head → IsWord name → HasWords items → nesting (page_nodes head name items) ≤ 64 → length (page_text head name items) ≤ 1048576 → IsForestOf (page_text head name items) g → SameShape g (page_nodes head name items) }
+    ensures sound { (head name : List ℕ) (items : Nodes) → IsWord head → IsWord name → HasWords items
+        → nesting (page_nodes head name items) ≤ 64 → length (page_text head name items) ≤ 1048576
+        → scan_fault (page_text head name items) ≡ None }
+    ensures some { (head name : List ℕ) (items : Nodes) → IsWord head → IsWord name → HasWords items
+        → nesting (page_nodes head name items) ≤ 64 → length (page_text head name items) ≤ 1048576
+        → (g : Nodes) × IsForestOf (page_text head name items) g }
+    ensures each { (head name : List ℕ) (items g : Nodes) → IsWord head → IsWord name → HasWords items
+        → nesting (page_nodes head name items) ≤ 64 → length (page_text head name items) ≤ 1048576
+        → IsForestOf (page_text head name items) g → SameShape g (page_nodes head name items) }
 {}
 
 /// Forests that are equal but for places have one nesting, and as many lists and items.

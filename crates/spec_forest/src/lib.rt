@@ -1,6 +1,6 @@
 //! A specification's text as a forest of atoms and lists.
-//! In: bytes. Out: the nodes of the text with their places (specs/Tokens.antt says which), or the first fault of
-//! scanning and its place (specs/Scan.antt).
+//! In: bytes. Out: the nodes of the text with their places, or the first fault of scanning and its place.
+//! Defined by specs/Tokens.antt (`IsForestOf`) and specs/Scan.antt (`scan_fault`); the main call is `trees`.
 #![tactic(auto)]
 
 mod fault;

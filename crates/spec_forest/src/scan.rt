@@ -4,9 +4,9 @@ ghost use Rattle.std.specs.List.{prefix_len, position, position_or_len};
 ghost use Rattle.spec_forest.specs.Node.{forest_nodes};
 ghost use Rattle.spec_forest.specs.Scan.{is_break};
 ghost use Rattle.spec_forest.specs.Tokens.{is_letter as letter, word, IsForestOf};
-ghost use Rattle.spec_forest.specs.Sizes.{nesting, list_count, item_count, IsWithin};
+ghost use Rattle.spec_forest.specs.Extents.{nesting, list_count, item_count, IsWithin};
 ghost use Rattle.spec_forest.specs.Answers.{TellsFault};
-ghost use Rattle.spec_forest.specs.Scanning.{IsKind, Stands, held, levels, Enters, Leaves, Takes, Finishes};
+ghost use Rattle.spec_forest.specs.Scanning.{IsKind, IsScanned, held, levels, Enters, Leaves, Takes, Finishes};
 
 use crate::fault::ScanFault;
 use crate::tree::{Forest, Tree};
@@ -149,7 +149,7 @@ impl Scanner {
         requires within { at < length text.now }
         requires short { length text.now ≤ 1048576 }
         requires shallow { levels self.old ≤ 64 }
-        requires stands { Stands text.now at (levels self.old) (held self.old) }
+        requires scanned { IsScanned text.now at (levels self.old) (held self.old) }
         ensures takes { Takes text.now at self.new result }
         ensures shallow { OnOk result (levels self.new ≤ 64) }
     {

@@ -1,10 +1,11 @@
 -- The text of a list by its items.
-use Rattle.std.proofs.Common.{◌≡◌, ℕ, ◌+◌, ◌<◌, ◌≤◌, List, [], ◌∷◌, ◌++◌, length, get_or, map, drop, codes, Option, None, refl, sym, ap, ◌∙◌, append_assoc, append-nil}
-use Rattle.std.proofs.lemmas.List.{drop_more, drop_all}
+use Rattle.std.proofs.Common.{◌≡◌, ℕ, List, [], ◌∷◌, ◌++◌, map, codes, Option, None, refl, sym, ap, ◌∙◌, append_assoc, append-nil}
 use Rattle.std.proofs.lemmas.List.Concat.{flat_map-cons}
 use Rattle.std.specs.List.{flat_map}
+use Rattle.sm_print.proofs.Printing.{separated}
 use Rattle.spec_text.specs.declared.surface.Surface.{Surface}
-use Rattle.spec_text.specs.Form.{Form, Forms, word, none, more, forms, headed, spec_word}
+use Rattle.spec_words.specs.Words.{spec_word}
+use Rattle.spec_text.specs.Form.{Form, Forms, word, none, more, forms, headed}
 use Rattle.spec_text.specs.Canonical.{text, texts, decl_line, canonical}
 
 -- each item behind a space
@@ -88,23 +89,8 @@ two-items-text f head a b xs =
 
 -- ---- items in a row
 
--- each behind its separator
-abbrev pub parted : List ℕ → Forms → List ℕ
-parted before none = []
-parted before (more f fs) = before ++ text f ++ parted (codes " ") fs
-
-pub texts-parted : (fs : Forms) → parted [] fs ≡ texts fs
-texts-parted none = refl
-texts-parted (more f none) = append-nil (text f)
-texts-parted (more f (more g gs)) = ap (λ (t : List ℕ). text f ++ (codes " " ++ t)) (texts-parted (more g gs)) ∙ sym (append_assoc (text f) (codes " ") (texts (more g gs)))
-
--- one more text behind those that are written
-pub parted_more : {X : Type 0} (f : X → Form) (done before : List ℕ) (all : List X) (i : ℕ) (x : X) (whole : List ℕ) → i < length all → x ≡ get_or all i x
-    → done ++ parted before (forms (map f (drop i all))) ≡ whole
-    → done ++ before ++ text (f x) ++ parted (codes " ") (forms (map f (drop (i + 1) all))) ≡ whole
-parted_more {X} f done before all i x whole lt is kept =
-    let first : drop i all ≡ x ∷ drop (i + 1) all = drop_more all i x lt ∙ ap (λ (y : X). y ∷ drop (i + 1) all) (sym is) in
-    simp append_assoc (sym (simp append_assoc at (rw first at (sym kept))))
-
-pub parted_end : {X : Type 0} (f : X → Form) (done before : List ℕ) (all : List X) (i : ℕ) (whole : List ℕ) → length all ≤ i → done ++ parted before (forms (map f (drop i all))) ≡ whole → done ≡ whole
-parted_end {X} f done before all i whole high kept = sym (append-nil done) ∙ ap (λ (xs : List X). done ++ parted before (forms (map f xs))) (sym (drop_all i all high)) ∙ kept
+pub separated-texts : {X : Type 0} (f : X → Form) (xs : List X) → separated (codes " ") [] (map (λ x. text (f x)) xs) ≡ texts (forms (map f xs))
+separated-texts f [] = refl
+separated-texts f (x ∷ []) = append-nil (text (f x))
+separated-texts f (x ∷ y ∷ ys) =
+    ap (λ (t : List ℕ). text (f x) ++ (codes " " ++ t)) (separated-texts f (y ∷ ys)) ∙ sym (append_assoc (text (f x)) (codes " ") (texts (forms (map f (y ∷ ys)))))

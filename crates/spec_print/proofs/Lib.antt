@@ -1,14 +1,3 @@
-pub mod Going
 pub mod Items
-pub mod Letters
 pub mod Worded
 pub mod Scanned
-pub mod Fits
-pub mod Placed
-pub mod KeptFits
-pub mod Read
-pub mod ReadWords
-pub mod ReadParts
-pub mod ReadForms
-pub mod ReadExprs
-pub mod ReadDecls

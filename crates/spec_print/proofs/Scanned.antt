@@ -5,16 +5,17 @@ use Rattle.spec_forest.specs.Node.{none as no_node, more as more_node}
 use Rattle.spec_forest.specs.declared.tree.Forest.{Forest}
 use Rattle.spec_forest.specs.Scan.{scan_fault}
 use Rattle.spec_forest.specs.Tokens.{IsForestOf}
-use Rattle.spec_forest.specs.Sizes.{node_nesting}
-use Rattle.spec_forest.specs.Sizes.{nesting as nodes_nesting}
+use Rattle.spec_forest.specs.Extents.{node_nesting}
+use Rattle.spec_forest.specs.Extents.{nesting as nodes_nesting}
 use Rattle.spec_forest.specs.Pieces.{node_unplaced, unplaced, SameShape}
 use Rattle.spec_forest.specs.Layout.{page_text, page_nodes}
 use Rattle.spec_forest.proofs.Pages.{PageIsRead, page-read}
 use Rattle.spec_text.specs.declared.surface.Surface.{Surface}
-use Rattle.spec_text.specs.Form.{Form, Forms, word, form, none, more, forms, form_of, form_of_decl, spec_word, Matches, AllMatch, IsSurfaceOf}
+use Rattle.spec_text.specs.Form.{Form, Forms, word, form, none, more, forms, form_of, form_of_decl, Matches, AllMatch, IsSurfaceOf}
+use Rattle.spec_words.specs.Words.{spec_word}
 use Rattle.spec_text.specs.Bare.{bare, bares}
 use Rattle.spec_text.specs.Extent.{nesting, deepest}
-use Rattle.spec_text.specs.Kept.{KeepsTable}
+use Rattle.spec_text.specs.KeepsTable.{KeepsTable}
 use Rattle.spec_text.specs.Canonical.{canonical}
 use Rattle.spec_text.proofs.Bares.{canonical_page}
 use Rattle.spec_print.proofs.Worded.{surface-worded}

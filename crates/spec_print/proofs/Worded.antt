@@ -26,12 +26,13 @@ use Rattle.spec_text.specs.declared.surface.Expr.TheFolds.{fold-roll-Expr, ind-E
 use Rattle.spec_text.specs.declared.surface.Decl.{Decl}
 use Rattle.spec_text.specs.declared.surface.Decl.TheVariants as d
 use Rattle.spec_text.specs.declared.surface.Surface.{Surface}
-use Rattle.spec_text.specs.Words.{scalar_word, op1_word, op2_word, dir_word}
-use Rattle.spec_text.specs.Form.{Form, form_of_type, form_of_const, form_of_expr, form_of_field, form_of_decl, type_step, const_step, expr_step, forms, spec_word}
-use Rattle.spec_text.specs.Kept.{between, all_kept, kept_from, keeps_name, keeps_type, keeps_const, keeps_expr, keeps_field, keeps_decl, keeps_type_step, keeps_const_step, keeps_expr_step, keeps_table, KeepsTable}
+use Rattle.spec_words.specs.Words.{scalar_word, op1_word, op2_word, dir_word}
+use Rattle.spec_text.specs.Form.{Form, form_of_type, form_of_const, form_of_expr, form_of_field, form_of_decl, type_step, const_step, expr_step, forms}
+use Rattle.spec_words.specs.Words.{spec_word}
+use Rattle.spec_text.specs.KeepsTable.{between, all_kept, kept_from, keeps_name, keeps_type, keeps_const, keeps_expr, keeps_field, keeps_decl, keeps_type_step, keeps_const_step, keeps_expr_step, keeps_table, KeepsTable}
 use Rattle.spec_text.specs.Shape.{most_initial}
 use Rattle.spec_text.specs.Bare.{bare, bares}
-use Rattle.spec_print.proofs.Letters.{name-word, decimal-word, literal-word}
+use Rattle.spec_text.proofs.Letters.{name-word, decimal-word, literal-word}
 
 -- ---- words
 

@@ -8,12 +8,11 @@ mod constants;
 mod declarations;
 mod expressions;
 mod laws;
-mod printer;
+mod lists;
 mod surface;
 mod types;
-mod words;
 
-pub use laws::{canonical_text_is_read, forest_has_one_surface, kept_surfaces_fit};
+pub use laws::canonical_text_is_read;
 pub use surface::write_text;
 
 #[cfg(test)]

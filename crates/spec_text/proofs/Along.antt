@@ -5,10 +5,11 @@ use Rattle.std.proofs.lemmas.List.{take_more}
 use Rattle.spec_forest.specs.Node.{Node, nodes, node}
 use Rattle.spec_forest.specs.declared.tree.Tree.{Tree}
 use Rattle.spec_text.specs.Form.{Form, forms, Matches, AllMatch}
-use Rattle.spec_text.specs.Kept.{all_kept}
+use Rattle.spec_text.specs.KeepsTable.{all_kept}
 use Rattle.spec_text.specs.Shape.{Place, count}
 use Rattle.spec_text.specs.FirstFault.{or_else, fault_in, fault_among}
 use Rattle.spec_text.specs.Holds.{Holds, AllHold}
+use Rattle.sm_io.proofs.Elements.{map_push}
 
 -- the first items are read, and have no fault
 pub record Along {T : Type 0} (as_form : T → Form) (keeps : T → Bool) (p : Place) (trees : List Tree) (i : ℕ) (vs : List T) : Type 0 where
@@ -28,16 +29,12 @@ count_more : (xs : List Node) (x : Node) → count (nodes (xs ++ x ∷ [])) ≡ 
 count_more [] x = refl
 count_more (y ∷ ys) x = ap (λ n. n + 1) (count_more ys x)
 
-map_one : {A B : Type 0} (f : A → B) (xs : List A) (x : A) → map f (xs ++ x ∷ []) ≡ map f xs ++ f x ∷ []
-map_one f [] x = refl
-map_one f (y ∷ ys) x = ap (λ zs. f y ∷ zs) (map_one f ys x)
-
 length_one : {A : Type 0} (xs : List A) (x : A) → length (xs ++ x ∷ []) ≡ length xs + 1
 length_one xs x = grind (arith, common_steps)
 
 hold_more : {T : Type 0} (as_form : T → Form) (keeps : T → Bool) (xs : List Tree) (x : Tree) (vs : List T) (v : T) → AllHold as_form keeps (nodes (map node xs)) vs → Holds as_form keeps (node x) v → AllHold as_form keeps (nodes (map node (xs ++ x ∷ []))) (vs ++ v ∷ [])
 hold_more as_form keeps xs x vs v all one =
-    rw (map_one node xs x, map_one as_form vs v, map_one keeps vs v) (
+    rw (map_push node xs x, map_push as_form vs v, map_push keeps vs v) (
       match_more (map as_form vs) (map node xs) (as_form v) (node x) all.0 one.0,
       rw one.1 (kept_more (map keeps vs) all.1),
       length_one (map keeps vs) (keeps v) ∙ ap (λ n. n + 1) all.2 ∙ sym (count_more (map node xs) (node x)),

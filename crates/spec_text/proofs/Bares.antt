@@ -10,7 +10,8 @@ use Rattle.spec_forest.specs.Layout.{node_text, line_text, lines_text, page_text
 use Rattle.spec_forest.specs.declared.tree.Forest.{Forest}
 use Rattle.spec_text.specs.declared.surface.Decl.{Decl}
 use Rattle.spec_text.specs.declared.surface.Surface.{Surface}
-use Rattle.spec_text.specs.Form.{Form, Forms, word, form, none, more, forms, form_of, form_of_decl, spec_word, Matches, AllMatch, IsSurfaceOf}
+use Rattle.spec_words.specs.Words.{spec_word}
+use Rattle.spec_text.specs.Form.{Form, Forms, word, form, none, more, forms, form_of, form_of_decl, Matches, AllMatch, IsSurfaceOf}
 use Rattle.spec_text.specs.Bare.{bare, bares}
 use Rattle.spec_text.specs.Canonical.{text, texts, decl_line, canonical}
 

@@ -1,6 +1,6 @@
 -- How many items a list has.
 use Rattle.std.proofs.Common.{◌≡◌, ℕ, suc, refl, ◌∙◌, List, [], ◌∷◌, map, length, false, true, Bool, ◌&&◌, nat_le, arith}
-use Rattle.spec_text.specs.Kept.{kept_from, all_kept}
+use Rattle.spec_text.specs.KeepsTable.{kept_from, all_kept}
 use Rattle.spec_forest.specs.Node.{Node, Nodes, more, nodes, node}
 use Rattle.spec_forest.specs.declared.tree.Tree.{Tree}
 use Rattle.spec_text.specs.Shape.{Further, has_items, count}

@@ -1,24 +1,23 @@
 -- A list at a place is read as the form that its word begins.
-use Rattle.std.proofs.Common.{◌≡◌, ℕ, refl, ap, List, [], Bool, true, false, Option, Some, None, Result, Ok, Err}
-use Rattle.std.specs.Prelude.{bytes_eq, codes, if◌then◌else◌}
+use Rattle.std.proofs.Common.{◌≡◌, ℕ, refl, ap, List, [], Bool, Option, Some, None, Result, Ok, Err}
 use Rattle.spec_forest.specs.Node.{Nodes, atom, list, none, more}
 use Rattle.spec_text.specs.declared.fault.ShapeFault.{ShapeFault}
 use Rattle.spec_text.specs.declared.fault.ShapeFault.TheVariants.{BadForm, BadName, BadLiteral, Memory}
 use Rattle.spec_text.specs.declared.surface.Surface.{Surface}
-use Rattle.spec_text.specs.Kept.{keeps_table}
-use Rattle.spec_text.proofs.Found.{same_bytes}
-use Rattle.spec_text.specs.Form.{Form, word, form, Matches, form_of, spec_word}
+use Rattle.spec_text.specs.KeepsTable.{keeps_table}
+use Rattle.spec_text.specs.Form.{Form, word, form, Matches, form_of}
 use Rattle.spec_text.specs.Form.{none as none_form, more as more_form}
-use Rattle.spec_text.specs.Shape.{Items, ty, constant, expression, declaration, top, headed_items, version_of, Reads}
+use Rattle.spec_text.specs.Shape.{Items, constant, expression, declaration, top, headed_items, SyntaxFault}
+use Rattle.spec_text.specs.Parses.{Parses}
 use Rattle.spec_text.specs.FirstFault.{fault_in, faults_of}
 use Rattle.spec_text.specs.Holds.{word_and_parts, IsList, HoldsForm, Holds}
 
-pub reads_as : {T : Type 0} (f : Option ShapeFault) (P Q : T → Type 0) → ((v : T) → P v → Q v) → (r : Result T ShapeFault) → Reads f P r → Reads f Q r
-reads_as f P Q h (Ok v) p = (p.0, h v p.1)
-reads_as f P Q h (Err Memory) p = p
-reads_as f P Q h (Err (BadForm at)) p = p
-reads_as f P Q h (Err (BadName at)) p = p
-reads_as f P Q h (Err (BadLiteral at)) p = p
+pub parses_as : {T : Type 0} (f : Option SyntaxFault) (P Q : T → Type 0) → ((v : T) → P v → Q v) → (r : Result T ShapeFault) → Parses f P r → Parses f Q r
+parses_as f P Q h (Ok v) p = (p.0, h v p.1)
+parses_as f P Q h (Err Memory) p = p
+parses_as f P Q h (Err (BadForm at)) p = p
+parses_as f P Q h (Err (BadName at)) p = p
+parses_as f P Q h (Err (BadLiteral at)) p = p
 
 matches_list : (f : Form) (at w : ℕ) (head : List ℕ) (parts : Nodes) → IsList f at head parts → Matches f (list at (more (atom w head) parts))
 matches_list (form place (more_form (word None head') items)) at w head parts h = (h.0, ((tt, h.1), h.2))
@@ -44,28 +43,15 @@ split none ps text h = absurd (cc)
 split (more (list at ys) xs) ps text h = absurd (cc)
 split (more (atom w t) qs) ps text h = (w, rw (ap text_in h, ap parts_in h) refl)
 
-at_type : (at w : ℕ) (text : List ℕ) (ps : Nodes) (all : Items) → headed_items ty text ps ≡ Some all → fault_in ty (list at (more (atom w text) ps)) ≡ faults_of at all ps
-at_type at w text ps all e = rw e refl
-
-type_of : {T : Type 0} (as_form : T → Form) (keeps : T → Bool) (at : ℕ) (xs ps : Nodes) (text head : List ℕ) (all : Items) (r : Result T ShapeFault) (w : ℕ) → xs ≡ more (atom w text) ps → headed_items ty text ps ≡ Some all → text ≡ head → Reads (faults_of at all ps) (HoldsForm as_form keeps at head ps) r → Reads (fault_in ty (list at xs)) (Holds as_form keeps (list at xs)) r
-type_of as_form keeps at xs ps text head all r w is begins same h =
-    rw (is, at_type at w text ps all begins, same)
-    (reads_as (faults_of at all ps) (HoldsForm as_form keeps at head ps) (Holds as_form keeps (list at (more (atom w head) ps))) (λ v. holds_list as_form keeps at w head ps v) r h)
-
-pub whole_type : {T : Type 0} (as_form : T → Form) (keeps : T → Bool) (at : ℕ) (xs ps : Nodes) (text head : List ℕ) (all : Items) (r : Result T ShapeFault) → word_and_parts xs ≡ Some (text, ps) → headed_items ty text ps ≡ Some all → text ≡ head → Reads (faults_of at all ps) (HoldsForm as_form keeps at head ps) r → Reads (fault_in ty (list at xs)) (Holds as_form keeps (list at xs)) r
-whole_type as_form keeps at xs ps text head all r is begins same h =
-    let there = split xs ps text is in
-    type_of as_form keeps at xs ps text head all r there.0 there.1 begins same h
-
 at_const : (at w : ℕ) (text : List ℕ) (ps : Nodes) (all : Items) → headed_items constant text ps ≡ Some all → fault_in constant (list at (more (atom w text) ps)) ≡ faults_of at all ps
 at_const at w text ps all e = rw e refl
 
-const_of : {T : Type 0} (as_form : T → Form) (keeps : T → Bool) (at : ℕ) (xs ps : Nodes) (text head : List ℕ) (all : Items) (r : Result T ShapeFault) (w : ℕ) → xs ≡ more (atom w text) ps → headed_items constant text ps ≡ Some all → text ≡ head → Reads (faults_of at all ps) (HoldsForm as_form keeps at head ps) r → Reads (fault_in constant (list at xs)) (Holds as_form keeps (list at xs)) r
+const_of : {T : Type 0} (as_form : T → Form) (keeps : T → Bool) (at : ℕ) (xs ps : Nodes) (text head : List ℕ) (all : Items) (r : Result T ShapeFault) (w : ℕ) → xs ≡ more (atom w text) ps → headed_items constant text ps ≡ Some all → text ≡ head → Parses (faults_of at all ps) (HoldsForm as_form keeps at head ps) r → Parses (fault_in constant (list at xs)) (Holds as_form keeps (list at xs)) r
 const_of as_form keeps at xs ps text head all r w is begins same h =
     rw (is, at_const at w text ps all begins, same)
-    (reads_as (faults_of at all ps) (HoldsForm as_form keeps at head ps) (Holds as_form keeps (list at (more (atom w head) ps))) (λ v. holds_list as_form keeps at w head ps v) r h)
+    (parses_as (faults_of at all ps) (HoldsForm as_form keeps at head ps) (Holds as_form keeps (list at (more (atom w head) ps))) (λ v. holds_list as_form keeps at w head ps v) r h)
 
-pub whole_const : {T : Type 0} (as_form : T → Form) (keeps : T → Bool) (at : ℕ) (xs ps : Nodes) (text head : List ℕ) (all : Items) (r : Result T ShapeFault) → word_and_parts xs ≡ Some (text, ps) → headed_items constant text ps ≡ Some all → text ≡ head → Reads (faults_of at all ps) (HoldsForm as_form keeps at head ps) r → Reads (fault_in constant (list at xs)) (Holds as_form keeps (list at xs)) r
+pub whole_const : {T : Type 0} (as_form : T → Form) (keeps : T → Bool) (at : ℕ) (xs ps : Nodes) (text head : List ℕ) (all : Items) (r : Result T ShapeFault) → word_and_parts xs ≡ Some (text, ps) → headed_items constant text ps ≡ Some all → text ≡ head → Parses (faults_of at all ps) (HoldsForm as_form keeps at head ps) r → Parses (fault_in constant (list at xs)) (Holds as_form keeps (list at xs)) r
 whole_const as_form keeps at xs ps text head all r is begins same h =
     let there = split xs ps text is in
     const_of as_form keeps at xs ps text head all r there.0 there.1 begins same h
@@ -73,12 +59,12 @@ whole_const as_form keeps at xs ps text head all r is begins same h =
 at_expr : (at w : ℕ) (text : List ℕ) (ps : Nodes) (all : Items) → headed_items expression text ps ≡ Some all → fault_in expression (list at (more (atom w text) ps)) ≡ faults_of at all ps
 at_expr at w text ps all e = rw e refl
 
-expr_of : {T : Type 0} (as_form : T → Form) (keeps : T → Bool) (at : ℕ) (xs ps : Nodes) (text head : List ℕ) (all : Items) (r : Result T ShapeFault) (w : ℕ) → xs ≡ more (atom w text) ps → headed_items expression text ps ≡ Some all → text ≡ head → Reads (faults_of at all ps) (HoldsForm as_form keeps at head ps) r → Reads (fault_in expression (list at xs)) (Holds as_form keeps (list at xs)) r
+expr_of : {T : Type 0} (as_form : T → Form) (keeps : T → Bool) (at : ℕ) (xs ps : Nodes) (text head : List ℕ) (all : Items) (r : Result T ShapeFault) (w : ℕ) → xs ≡ more (atom w text) ps → headed_items expression text ps ≡ Some all → text ≡ head → Parses (faults_of at all ps) (HoldsForm as_form keeps at head ps) r → Parses (fault_in expression (list at xs)) (Holds as_form keeps (list at xs)) r
 expr_of as_form keeps at xs ps text head all r w is begins same h =
     rw (is, at_expr at w text ps all begins, same)
-    (reads_as (faults_of at all ps) (HoldsForm as_form keeps at head ps) (Holds as_form keeps (list at (more (atom w head) ps))) (λ v. holds_list as_form keeps at w head ps v) r h)
+    (parses_as (faults_of at all ps) (HoldsForm as_form keeps at head ps) (Holds as_form keeps (list at (more (atom w head) ps))) (λ v. holds_list as_form keeps at w head ps v) r h)
 
-pub whole_expr : {T : Type 0} (as_form : T → Form) (keeps : T → Bool) (at : ℕ) (xs ps : Nodes) (text head : List ℕ) (all : Items) (r : Result T ShapeFault) → word_and_parts xs ≡ Some (text, ps) → headed_items expression text ps ≡ Some all → text ≡ head → Reads (faults_of at all ps) (HoldsForm as_form keeps at head ps) r → Reads (fault_in expression (list at xs)) (Holds as_form keeps (list at xs)) r
+pub whole_expr : {T : Type 0} (as_form : T → Form) (keeps : T → Bool) (at : ℕ) (xs ps : Nodes) (text head : List ℕ) (all : Items) (r : Result T ShapeFault) → word_and_parts xs ≡ Some (text, ps) → headed_items expression text ps ≡ Some all → text ≡ head → Parses (faults_of at all ps) (HoldsForm as_form keeps at head ps) r → Parses (fault_in expression (list at xs)) (Holds as_form keeps (list at xs)) r
 whole_expr as_form keeps at xs ps text head all r is begins same h =
     let there = split xs ps text is in
     expr_of as_form keeps at xs ps text head all r there.0 there.1 begins same h
@@ -86,38 +72,27 @@ whole_expr as_form keeps at xs ps text head all r is begins same h =
 at_decl : (version : ℕ) (at w : ℕ) (text : List ℕ) (ps : Nodes) (all : Items) → headed_items (declaration version) text ps ≡ Some all → fault_in (declaration version) (list at (more (atom w text) ps)) ≡ faults_of at all ps
 at_decl version at w text ps all e = rw e refl
 
-decl_of : {T : Type 0} (version : ℕ) (as_form : T → Form) (keeps : T → Bool) (at : ℕ) (xs ps : Nodes) (text head : List ℕ) (all : Items) (r : Result T ShapeFault) (w : ℕ) → xs ≡ more (atom w text) ps → headed_items (declaration version) text ps ≡ Some all → text ≡ head → Reads (faults_of at all ps) (HoldsForm as_form keeps at head ps) r → Reads (fault_in (declaration version) (list at xs)) (Holds as_form keeps (list at xs)) r
+decl_of : {T : Type 0} (version : ℕ) (as_form : T → Form) (keeps : T → Bool) (at : ℕ) (xs ps : Nodes) (text head : List ℕ) (all : Items) (r : Result T ShapeFault) (w : ℕ) → xs ≡ more (atom w text) ps → headed_items (declaration version) text ps ≡ Some all → text ≡ head → Parses (faults_of at all ps) (HoldsForm as_form keeps at head ps) r → Parses (fault_in (declaration version) (list at xs)) (Holds as_form keeps (list at xs)) r
 decl_of version as_form keeps at xs ps text head all r w is begins same h =
     rw (is, at_decl version at w text ps all begins, same)
-    (reads_as (faults_of at all ps) (HoldsForm as_form keeps at head ps) (Holds as_form keeps (list at (more (atom w head) ps))) (λ v. holds_list as_form keeps at w head ps v) r h)
+    (parses_as (faults_of at all ps) (HoldsForm as_form keeps at head ps) (Holds as_form keeps (list at (more (atom w head) ps))) (λ v. holds_list as_form keeps at w head ps v) r h)
 
-pub whole_decl : {T : Type 0} (version : ℕ) (as_form : T → Form) (keeps : T → Bool) (at : ℕ) (xs ps : Nodes) (text head : List ℕ) (all : Items) (r : Result T ShapeFault) → word_and_parts xs ≡ Some (text, ps) → headed_items (declaration version) text ps ≡ Some all → text ≡ head → Reads (faults_of at all ps) (HoldsForm as_form keeps at head ps) r → Reads (fault_in (declaration version) (list at xs)) (Holds as_form keeps (list at xs)) r
+pub whole_decl : {T : Type 0} (version : ℕ) (as_form : T → Form) (keeps : T → Bool) (at : ℕ) (xs ps : Nodes) (text head : List ℕ) (all : Items) (r : Result T ShapeFault) → word_and_parts xs ≡ Some (text, ps) → headed_items (declaration version) text ps ≡ Some all → text ≡ head → Parses (faults_of at all ps) (HoldsForm as_form keeps at head ps) r → Parses (fault_in (declaration version) (list at xs)) (Holds as_form keeps (list at xs)) r
 whole_decl version as_form keeps at xs ps text head all r is begins same h =
     let there = split xs ps text is in
     decl_of version as_form keeps at xs ps text head all r there.0 there.1 begins same h
 
 -- ---- the whole
 
-some_version : (m n : ℕ) → Some m ≡ Some n → m ≡ n
-some_version m n h = cc
-
 at_top : (at w : ℕ) (text : List ℕ) (ps : Nodes) (all : Items) → headed_items top text ps ≡ Some all → fault_in top (list at (more (atom w text) ps)) ≡ faults_of 0 all ps
 at_top at w text ps all e = rw e refl
 
-top_of : (at : ℕ) (xs ps : Nodes) (text head : List ℕ) (all : Items) (r : Result Surface ShapeFault) (w : ℕ) → xs ≡ more (atom w text) ps → headed_items top text ps ≡ Some all → text ≡ head → Reads (faults_of 0 all ps) (HoldsForm form_of keeps_table 0 head ps) r → Reads (fault_in top (list at xs)) (Holds form_of keeps_table (list at xs)) r
+top_of : (at : ℕ) (xs ps : Nodes) (text head : List ℕ) (all : Items) (r : Result Surface ShapeFault) (w : ℕ) → xs ≡ more (atom w text) ps → headed_items top text ps ≡ Some all → text ≡ head → Parses (faults_of 0 all ps) (HoldsForm form_of keeps_table 0 head ps) r → Parses (fault_in top (list at xs)) (Holds form_of keeps_table (list at xs)) r
 top_of at xs ps text head all r w is begins same h =
     rw (is, at_top at w text ps all begins, same)
-    (reads_as (faults_of 0 all ps) (HoldsForm form_of keeps_table 0 head ps) (Holds form_of keeps_table (list at (more (atom w head) ps))) (λ v p. ((p.0.0, ((tt, p.0.1), p.0.2)), p.1)) r h)
+    (parses_as (faults_of 0 all ps) (HoldsForm form_of keeps_table 0 head ps) (Holds form_of keeps_table (list at (more (atom w head) ps))) (λ v p. ((p.0.0, ((tt, p.0.1), p.0.2)), p.1)) r h)
 
-pub whole_top : (at : ℕ) (xs ps : Nodes) (text head : List ℕ) (all : Items) (r : Result Surface ShapeFault) → word_and_parts xs ≡ Some (text, ps) → headed_items top text ps ≡ Some all → text ≡ head → Reads (faults_of 0 all ps) (HoldsForm form_of keeps_table 0 head ps) r → Reads (fault_in top (list at xs)) (Holds form_of keeps_table (list at xs)) r
+pub whole_top : (at : ℕ) (xs ps : Nodes) (text head : List ℕ) (all : Items) (r : Result Surface ShapeFault) → word_and_parts xs ≡ Some (text, ps) → headed_items top text ps ≡ Some all → text ≡ head → Parses (faults_of 0 all ps) (HoldsForm form_of keeps_table 0 head ps) r → Parses (fault_in top (list at xs)) (Holds form_of keeps_table (list at xs)) r
 whole_top at xs ps text head all r is begins same h =
     let there = split xs ps text is in
     top_of at xs ps text head all r there.0 there.1 begins same h
-
-version_case : (text : List ℕ) (v : ℕ) (b c : Bool) → bytes_eq text (codes "spec") ≡ b → bytes_eq text (codes "spec2") ≡ c → (if b then Some 1 else if c then Some 2 else None) ≡ Some v → text ≡ spec_word v
-version_case text v true c is other h = rw (← some_version 1 v h) (same_bytes text (codes "spec") is)
-version_case text v false true is other h = rw (← some_version 2 v h) (same_bytes text (codes "spec2") other)
-version_case text v false false is other h = absurd (cc)
-
-pub version_word : (text : List ℕ) (v : ℕ) → version_of text ≡ Some v → text ≡ spec_word v
-version_word text v h = version_case text v (bytes_eq text (codes "spec")) (bytes_eq text (codes "spec2")) refl refl h

@@ -2,19 +2,18 @@
 use Rattle.std.proofs.Common.{◌≡◌, refl, ap, sym, ◌∙◌, List, [], ◌∷◌, ◌++◌, Option, Some, None}
 use Rattle.std.specs.Option.{option_map_or}
 use Rattle.spec_forest.specs.Node.{Node, Nodes, atom, list, none, more}
-use Rattle.spec_text.specs.declared.fault.ShapeFault.{ShapeFault}
-use Rattle.spec_text.specs.Shape.{Place, top, extra, shape_fault_of, Placed, preorder, preorders, first_fault, own_fault, list_fault, first_places, further_place, items_at, atom_fault}
+use Rattle.spec_text.specs.Shape.{SyntaxFault, Place, top, extra, shape_fault_of, Placed, preorder, preorders, first_fault, own_fault, list_fault, first_places, further_place, items_at, atom_fault}
 use Rattle.spec_text.specs.FirstFault.{or_else, fault_in, fault_among, top_fault}
 
-or_else-None : (f : Option ShapeFault) → or_else f None ≡ f
+or_else-None : (f : Option SyntaxFault) → or_else f None ≡ f
 or_else-None None = refl
 or_else-None (Some f) = refl
 
-or_else-or_else : (f g h : Option ShapeFault) → or_else (or_else f g) h ≡ or_else f (or_else g h)
+or_else-or_else : (f g h : Option SyntaxFault) → or_else (or_else f g) h ≡ or_else f (or_else g h)
 or_else-or_else None g h = refl
 or_else-or_else (Some f) g h = refl
 
-first_or : (f g : Option ShapeFault) → option_map_or Some f g ≡ or_else f g
+first_or : (f g : Option SyntaxFault) → option_map_or Some f g ≡ or_else f g
 first_or None g = refl
 first_or (Some f) g = refl
 

@@ -3,7 +3,8 @@ use Rattle.std.specs.Prelude.{ℕ, List, ◌++◌, codes}
 use Rattle.std.specs.List.{flat_map}
 use Rattle.spec_text.specs.declared.surface.Decl.{Decl}
 use Rattle.spec_text.specs.declared.surface.Surface.{Surface}
-use Rattle.spec_text.specs.Form.{Form, Forms, word, form, none, more, form_of_decl, spec_word}
+use Rattle.spec_words.specs.Words.{spec_word}
+use Rattle.spec_text.specs.Form.{Form, Forms, word, form, none, more, form_of_decl}
 
 -- atoms and brackets, with one space between two items and nothing else blank
 abbrev mutual

@@ -1,5 +1,5 @@
 -- As which tree each part of a surface is written.
-use Rattle.std.specs.Prelude.{◌≡◌, ℕ, ◌==◌, if◌then◌else◌, List, [], ◌∷◌, map, codes, decimal, Option, Some, None}
+use Rattle.std.specs.Prelude.{◌≡◌, ℕ, List, [], ◌∷◌, map, codes, decimal, Option, Some, None}
 use Rattle.stream_types.specs.declared.scalar.Scalar.{Scalar}
 use Rattle.spec_forest.specs.Node.{Node, Nodes, atom, list, forest_nodes}
 use Rattle.spec_forest.specs.Node.{none as no_node, more as more_node}
@@ -18,8 +18,8 @@ use Rattle.spec_text.specs.declared.surface.Expr.TheFolds.{fold-Expr}
 use Rattle.spec_text.specs.declared.surface.Decl.{Decl}
 use Rattle.spec_text.specs.declared.surface.Decl.TheVariants as d
 use Rattle.spec_text.specs.declared.surface.Surface.{Surface}
-use Rattle.spec_text.specs.Words.{scalar_word, op1_word, op2_word, dir_word}
-use Rattle.spec_text.specs.Numbers.{literal_text}
+use Rattle.spec_words.specs.Words.{spec_word, scalar_word, op1_word, op2_word, dir_word}
+use Rattle.spec_words.specs.Literals.{literal_text}
 
 -- ---- forms
 
@@ -138,9 +138,6 @@ form_of_decl (d.Trigger at x guard args) =
 form_of_decl (d.Observer at x e) = with_two at (codes "observer") (name_form x) (form_of_expr e)
 
 -- ---- the whole
-
-abbrev pub spec_word : ℕ → List ℕ
-spec_word version = if version == 1 then codes "spec" else codes "spec2"
 
 abbrev pub form_of : Surface → Form
 form_of s = headed None (spec_word s.version) (more (word None s.name) (forms (map form_of_decl s.decls)))

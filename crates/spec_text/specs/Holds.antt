@@ -1,6 +1,9 @@
 -- What a part that was read has in common with its node: it has the node's form, and keeps the table.
 use Rattle.std.specs.Prelude.{◌≡◌, ℕ, List, map, length, IsTrue, ◌≤◌, ◌<◌, Bool, Option, Some, None}
 use Rattle.spec_forest.specs.Node.{Node, Nodes, atom, list, none, more}
+use Rattle.spec_words.specs.declared.magnitudes.Magnitude.{Magnitude}
+use Rattle.spec_words.specs.declared.magnitudes.Magnitude.TheVariants.{Of}
+use Rattle.spec_words.specs.Magnitudes.{magnitude_of}
 use Rattle.spec_text.specs.declared.surface.NameAt.{NameAt}
 use Rattle.spec_text.specs.declared.surface.FieldForm.{FieldForm}
 use Rattle.spec_text.specs.declared.surface.TypeForm.{TypeForm}
@@ -9,7 +12,7 @@ use Rattle.spec_text.specs.declared.surface.Expr.{Expr}
 use Rattle.spec_text.specs.declared.surface.Decl.{Decl}
 use Rattle.spec_text.specs.Form.{none as none_form, more as more_form}
 use Rattle.spec_text.specs.Form.{Form, word, form, IsAt, form_of_type, form_of_const, form_of_expr, form_of_field, form_of_decl, name_form, number as number_form, forms, Matches, AllMatch}
-use Rattle.spec_text.specs.Kept.{keeps_name, keeps_type, keeps_const, keeps_expr, keeps_field, keeps_decl, all_kept}
+use Rattle.spec_text.specs.KeepsTable.{keeps_name, keeps_type, keeps_const, keeps_expr, keeps_field, keeps_decl, all_kept}
 use Rattle.spec_text.specs.Shape.{count, number_in}
 
 -- a value and the node that it was read from
@@ -41,6 +44,10 @@ HoldsDecl version x v = Holds form_of_decl (keeps_decl version) x v
 -- a number from the first to the second, which the node writes
 abbrev pub HoldsNumber : ℕ → ℕ → Node → ℕ → Type 0
 HoldsNumber low high x n = Matches (number_form n) x × (low ≤ n) × (n ≤ high) × (n ≡ number_in x)
+
+-- a decimal of any size, which the node writes
+abbrev pub HoldsDecimal : Node → Magnitude → Type 0
+HoldsDecimal x m = (m ≡ magnitude_of (number_in x)) × ((n : ℕ) → m ≡ Of n → Matches (number_form n) x)
 
 -- two bounds
 abbrev pub HoldsBounds : Node → Node → ℕ × ℕ → Type 0

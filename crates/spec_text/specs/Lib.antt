@@ -1,13 +1,10 @@
-pub mod Words
-pub mod Numbers
-pub mod Sizes
 pub mod Form
 pub mod Shape
 pub mod FirstFault
-pub mod Kept
+pub mod KeepsTable
 pub mod Holds
+pub mod Parses
 pub mod Bare
 pub mod Canonical
-pub mod FormLaws
-pub mod KeptLaws
+pub mod FoldRows
 pub mod Extent

@@ -1,19 +1,18 @@
 -- The table of forms, by the place where a node stands, and the first node that doesn't fit its place.
-use Rattle.std.specs.Prelude.{◌≡◌, ℕ, zero, suc, ◌+◌, ◌-◌, Bool, true, false, ◌==◌, ◌&&◌, ◌||◌, if◌then◌else◌, nat_le, List, [], ◌∷◌, ◌++◌, length, codes, bytes_eq, Option, Some, None, is_some, Result, Ok, Err}
+use Rattle.std.specs.Prelude.{ℕ, zero, suc, ◌+◌, ◌-◌, Bool, true, false, ◌==◌, ◌&&◌, ◌||◌, if◌then◌else◌, nat_le, List, [], ◌∷◌, ◌++◌, length, codes, bytes_eq, Option, Some, None, is_some}
 use Rattle.std.specs.Option.{option_map, option_map_or}
 use Rattle.sm_io.specs.Words.{is_name}
 use Rattle.spec_forest.specs.Node.{Node, Nodes, atom, list, none, more, forest_nodes}
 use Rattle.spec_forest.specs.declared.tree.Forest.{Forest}
-use Rattle.spec_text.specs.declared.fault.ShapeFault.{ShapeFault}
-use Rattle.spec_text.specs.declared.fault.ShapeFault.TheVariants.{BadForm, BadName, BadLiteral, Memory}
-use Rattle.spec_text.specs.declared.head.DeclHead.{DeclHead}
-use Rattle.spec_text.specs.declared.head.DeclHead.TheVariants as decl
-use Rattle.spec_text.specs.declared.head.ConstHead.{ConstHead}
-use Rattle.spec_text.specs.declared.head.ConstHead.TheVariants as constant_head
-use Rattle.spec_text.specs.declared.head.Head.{Head}
-use Rattle.spec_text.specs.declared.head.Head.TheVariants as head
-use Rattle.spec_text.specs.Words.{scalar_of, decl_head, const_head, head_of}
-use Rattle.spec_text.specs.Numbers.{is_decimal, value_of, literal_of, is_numeric, truth_of}
+use Rattle.spec_words.specs.declared.head.DeclHead.{DeclHead}
+use Rattle.spec_words.specs.declared.head.DeclHead.TheVariants as decl
+use Rattle.spec_words.specs.declared.head.ConstHead.{ConstHead}
+use Rattle.spec_words.specs.declared.head.ConstHead.TheVariants as constant_head
+use Rattle.spec_words.specs.declared.head.Head.{Head}
+use Rattle.spec_words.specs.declared.head.Head.TheVariants as head
+use Rattle.spec_words.specs.Words.{version_of, scalar_of, decl_head, const_head, head_of, truth_of}
+use Rattle.spec_words.specs.Decimals.{is_decimal, value_of, is_decimal_between}
+use Rattle.spec_words.specs.Literals.{literal_of, is_numeric}
 
 -- ---- places
 
@@ -75,10 +74,6 @@ has_items (suc n) further none = false
 has_items (suc n) further (more x xs) = has_items n further xs
 
 -- ---- the table
-
--- the version whose texts begin with this word
-abbrev pub version_of : List ℕ → Option ℕ
-version_of text = if bytes_eq text (codes "spec") then Some 1 else if bytes_eq text (codes "spec2") then Some 2 else None
 
 abbrev pub spec_items : ℕ → Items
 spec_items version = any_from (name ∷ []) 0 (declaration version)
@@ -165,46 +160,52 @@ behind p (more x xs) = xs
 
 -- ---- the fault of one node
 
-abbrev pub unless : Bool → ShapeFault → Option ShapeFault
+-- what is wrong with a node at its place, and at which byte
+pub data SyntaxFault : Type 0 where
+  bad_form : ℕ → SyntaxFault
+  bad_name : ℕ → SyntaxFault
+  bad_literal : ℕ → SyntaxFault
+
+abbrev pub unless : Bool → SyntaxFault → Option SyntaxFault
 unless true fault = None
 unless false fault = Some fault
 
 -- a list begins a form of its place, and has as many items as that form
-abbrev pub form_fault : ℕ → Option Items → Nodes → Option ShapeFault
-form_fault at None parts = Some (BadForm at)
-form_fault at (Some all) parts = unless (has_items (length all.first) all.further parts) (BadForm at)
+abbrev pub form_fault : ℕ → Option Items → Nodes → Option SyntaxFault
+form_fault at None parts = Some (bad_form at)
+form_fault at (Some all) parts = unless (has_items (length all.first) all.further parts) (bad_form at)
 
 -- the fault of an atom at its place
-abbrev pub atom_fault : Place → ℕ → List ℕ → Option ShapeFault
-atom_fault top at text = Some (BadForm 0)
-atom_fault extra at text = Some (BadForm at)
-atom_fault (declaration version) at text = Some (BadForm at)
-atom_fault field at text = Some (BadForm at)
-atom_fault (initial version) at text = Some (BadForm at)
-atom_fault name at text = unless (is_name text) (BadName at)
-atom_fault ty at text = unless (is_some (scalar_of text) || is_name text) (BadName at)
-atom_fault constant at text = unless (is_some (literal_of text)) (BadLiteral at)
+abbrev pub atom_fault : Place → ℕ → List ℕ → Option SyntaxFault
+atom_fault top at text = Some (bad_form 0)
+atom_fault extra at text = Some (bad_form at)
+atom_fault (declaration version) at text = Some (bad_form at)
+atom_fault field at text = Some (bad_form at)
+atom_fault (initial version) at text = Some (bad_form at)
+atom_fault name at text = unless (is_name text) (bad_name at)
+atom_fault ty at text = unless (is_some (scalar_of text) || is_name text) (bad_name at)
+atom_fault constant at text = unless (is_some (literal_of text)) (bad_literal at)
 atom_fault expression at text =
-    if is_numeric text then unless (is_some (literal_of text)) (BadLiteral at)
-    else unless (is_some (truth_of text) || is_name text) (BadName at)
-atom_fault decimal at text = unless (is_decimal text) (BadLiteral at)
+    if is_numeric text then unless (is_some (literal_of text)) (bad_literal at)
+    else unless (is_some (truth_of text) || is_name text) (bad_name at)
+atom_fault decimal at text = unless (is_decimal text) (bad_literal at)
 atom_fault (number low high) at text =
-    unless (is_decimal text && (nat_le low (value_of text) && nat_le (value_of text) high)) (BadLiteral at)
+    unless (is_decimal_between low high text) (bad_literal at)
 atom_fault first_word at text = None
 atom_fault beyond at text = None
 
 -- the fault of a list at its place, its parts aside
-abbrev pub list_fault : Place → ℕ → Nodes → Option ShapeFault
+abbrev pub list_fault : Place → ℕ → Nodes → Option SyntaxFault
 list_fault top at parts = form_fault 0 (items_at top parts) (behind top parts)
-list_fault extra at parts = Some (BadForm at)
-list_fault name at parts = Some (BadName at)
-list_fault decimal at parts = Some (BadLiteral at)
-list_fault (number low high) at parts = Some (BadLiteral at)
+list_fault extra at parts = Some (bad_form at)
+list_fault name at parts = Some (bad_name at)
+list_fault decimal at parts = Some (bad_literal at)
+list_fault (number low high) at parts = Some (bad_literal at)
 list_fault first_word at parts = None
 list_fault beyond at parts = None
 list_fault p at parts = form_fault at (items_at p parts) (behind p parts)
 
-abbrev pub own_fault : Place → Node → Option ShapeFault
+abbrev pub own_fault : Place → Node → Option SyntaxFault
 own_fault p (atom at text) = atom_fault p at text
 own_fault p (list at parts) = list_fault p at parts
 
@@ -238,22 +239,14 @@ abbrev mutual
   preorders [] p (more x xs) = preorder p x ++ preorders [] p xs
   preorders (q ∷ ps) p (more x xs) = preorder q x ++ preorders ps p xs
 
-abbrev pub first_fault : List Placed → Option ShapeFault
+abbrev pub first_fault : List Placed → Option SyntaxFault
 first_fault [] = None
 first_fault (x ∷ xs) = option_map_or Some (own_fault x.place x.node) (first_fault xs)
 
 -- the fault of the first node in preorder that doesn't fit its place; a text without items is no form
-unfoldable pub shape_fault_of : Nodes → Option ShapeFault
-shape_fault_of none = Some (BadForm 0)
+unfoldable pub shape_fault_of : Nodes → Option SyntaxFault
+shape_fault_of none = Some (bad_form 0)
 shape_fault_of (more x xs) = first_fault (preorders (top ∷ []) extra (more x xs))
 
-unfoldable pub shape_fault : Forest → Option ShapeFault
+unfoldable pub shape_fault : Forest → Option SyntaxFault
 shape_fault forest = shape_fault_of (forest_nodes forest)
-
--- ---- answers
-
--- A value comes where there is no fault and it is as it must be, and an error is the fault. Want of memory is free.
-abbrev pub Reads : {T : Type 0} → Option ShapeFault → (T → Type 0) → Result T ShapeFault → Type 0
-Reads fault P (Ok x) = (fault ≡ None) × P x
-Reads fault P (Err Memory) = Unit {0}
-Reads fault P (Err e) = fault ≡ Some e

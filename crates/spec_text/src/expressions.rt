@@ -1,37 +1,38 @@
 // Expressions in a forest.
-ghost use Rattle.std.specs.Prelude.{◌≡◌, [], map, false, IsTrue};
+ghost use Rattle.std.specs.Prelude.{◌≡◌, map, false, IsTrue};
 ghost use Rattle.spec_forest.specs.Node.{node, nodes, atom, list};
-ghost use Rattle.spec_text.specs.Shape.{Reads, expression, expr_items};
-ghost use Rattle.spec_text.specs.FirstFault.{fault_in, fault_among, faults_of};
-ghost use Rattle.spec_text.specs.Holds.{HoldsExpr, HoldsForm, AllHold};
+ghost use Rattle.spec_text.specs.Shape.{expression};
+ghost use Rattle.spec_text.specs.FirstFault.{fault_in};
+ghost use Rattle.spec_text.specs.Holds.{HoldsExpr};
+ghost use Rattle.spec_text.specs.Parses.{Parses, ParsesExpr, ParsesEach};
 ghost use Rattle.spec_text.specs.Form.{form_of_expr};
-ghost use Rattle.spec_text.specs.Numbers.{is_numeric};
-ghost use Rattle.spec_text.specs.Kept.{keeps_expr};
-ghost use Rattle.spec_text.specs.Words.{head_word, single_word, pair_word, bounded_word, vote_word, window_word};
-ghost use Rattle.spec_text.specs.declared.head.Head.TheVariants as h;
+ghost use Rattle.spec_words.specs.Literals.{is_numeric};
+ghost use Rattle.spec_text.specs.KeepsTable.{keeps_expr};
+ghost use Rattle.spec_words.specs.Words.{head_word, single_word, pair_word, bounded_word, vote_word, window_word};
+ghost use Rattle.spec_words.specs.declared.head.Head.TheVariants as h;
 
 use crate::fault::ShapeFault;
 use crate::forms::{bounded, pair, single, vote, window};
-use crate::head::{Bounded, Head, Pair, Single, Vote, Window};
 use crate::names::{name_of, read_name};
-use crate::numbers::{is_numeric, literal, truth};
 use crate::parts::{
     first, four, headed, one, read_bounds, read_clock, read_number, some_item, some_up_to, three,
     two,
 };
 use crate::surface::{Expr, NameAt};
 use crate::types::read_type;
-use crate::words::head_of;
 use sm_io::is_name;
 use spec_forest::Tree;
+use spec_words::{
+    Bounded, Head, Pair, Single, Vote, Window, head_of, is_numeric, literal, truth_of,
+};
 use sqlite_items::{Boxed, Items};
 use std::alloc::Global;
 use stream_types::Scalar;
 
-#[tactic(auto, using(crate::specs::FormLaws::expr_forms, crate::specs::KeptLaws::expr_kepts, crate::proofs::Literals::read_literals))]
+#[tactic(auto, using(crate::specs::FoldRows::expr_rows, spec_words::proofs::LiteralLaws::read_literals), unfolding(crate::specs::Form::form_of_expr, crate::specs::KeepsTable::keeps_expr))]
 fn literal_atom(at: u64, text: &[u8]) -> Result<Expr, ShapeFault>
     requires { IsTrue (is_numeric text.now) }
-    ensures { Reads (fault_in expression (atom at text.now)) (HoldsExpr (atom at text.now)) result }
+    ensures { Parses (fault_in expression (atom at text.now)) (HoldsExpr (atom at text.now)) result }
 {
     match literal(text) {
         Some((scalar, word)) => Ok(Expr::Lit { at, scalar, word }),
@@ -39,12 +40,12 @@ fn literal_atom(at: u64, text: &[u8]) -> Result<Expr, ShapeFault>
     }
 }
 
-#[tactic(auto, using(crate::specs::FormLaws::expr_forms, crate::specs::KeptLaws::expr_kepts, crate::proofs::Literals::read_truths))]
+#[tactic(auto, using(crate::specs::FoldRows::expr_rows, spec_words::proofs::LiteralLaws::read_truths), unfolding(crate::specs::Form::form_of_expr, crate::specs::KeepsTable::keeps_expr))]
 fn word_atom(alloc: Global, at: u64, text: &[u8]) -> Result<Expr, ShapeFault>
     requires { is_numeric text.now ≡ false }
-    ensures { Reads (fault_in expression (atom at text.now)) (HoldsExpr (atom at text.now)) result }
+    ensures { Parses (fault_in expression (atom at text.now)) (HoldsExpr (atom at text.now)) result }
 {
-    if let Some(word) = truth(text) {
+    if let Some(word) = truth_of(text) {
         let scalar = Scalar::Bool;
         return Ok(Expr::Lit { at, scalar, word });
     }
@@ -56,7 +57,7 @@ fn word_atom(alloc: Global, at: u64, text: &[u8]) -> Result<Expr, ShapeFault>
 }
 
 fn expr_atom(alloc: Global, at: u64, text: &[u8]) -> Result<Expr, ShapeFault>
-    ensures { Reads (fault_in expression (atom at text.now)) (HoldsExpr (atom at text.now)) result }
+    ensures { Parses (fault_in expression (atom at text.now)) (HoldsExpr (atom at text.now)) result }
 {
     if is_numeric(text) {
         literal_atom(at, text)
@@ -65,9 +66,9 @@ fn expr_atom(alloc: Global, at: u64, text: &[u8]) -> Result<Expr, ShapeFault>
     }
 }
 
-#[tactic(auto, using(crate::specs::FormLaws::expr_forms, crate::specs::KeptLaws::expr_kepts))]
+#[tactic(auto, using(crate::specs::FoldRows::expr_rows), unfolding(crate::specs::Form::form_of_expr, crate::specs::KeepsTable::keeps_expr))]
 fn drop_form(alloc: Global, at: u64, parts: &[Tree]) -> Result<Expr, ShapeFault>
-    ensures { Reads (faults_of at (expr_items h.Drop (nodes (map node parts.now))) (nodes (map node parts.now))) (HoldsForm form_of_expr keeps_expr at (head_word h.Drop) (nodes (map node parts.now))) result }
+    ensures { ParsesExpr at h.Drop (nodes (map node parts.now)) result }
 {
     let (k, name) = two(at, parts)?;
     let k = read_number(k, 0, u32::MAX)?;
@@ -75,9 +76,9 @@ fn drop_form(alloc: Global, at: u64, parts: &[Tree]) -> Result<Expr, ShapeFault>
     Ok(Expr::Drop { at, k, name })
 }
 
-#[tactic(auto, using(crate::specs::FormLaws::expr_forms, crate::specs::KeptLaws::expr_kepts))]
+#[tactic(auto, using(crate::specs::FoldRows::expr_rows), unfolding(crate::specs::Form::form_of_expr, crate::specs::KeepsTable::keeps_expr))]
 fn clock_form(at: u64, parts: &[Tree]) -> Result<Expr, ShapeFault>
-    ensures { Reads (faults_of at (expr_items h.Clock (nodes (map node parts.now))) (nodes (map node parts.now))) (HoldsForm form_of_expr keeps_expr at (head_word h.Clock) (nodes (map node parts.now))) result }
+    ensures { ParsesExpr at h.Clock (nodes (map node parts.now)) result }
 {
     let (period, phase) = two(at, parts)?;
     let (period, phase) = read_clock(period, phase)?;
@@ -86,7 +87,7 @@ fn clock_form(at: u64, parts: &[Tree]) -> Result<Expr, ShapeFault>
 
 #[cycle(expressions)]
 fn single_form(alloc: Global, at: u64, head: Single, parts: &[Tree]) -> Result<Expr, ShapeFault>
-    ensures { Reads (faults_of at (expr_items (h.Single head) (nodes (map node parts.now))) (nodes (map node parts.now))) (HoldsForm form_of_expr keeps_expr at (single_word head) (nodes (map node parts.now))) result }
+    ensures { ParsesExpr at (h.Single head) (nodes (map node parts.now)) result }
 {
     let a = one(at, parts)?;
     let a = read_boxed(alloc, a)?;
@@ -95,7 +96,7 @@ fn single_form(alloc: Global, at: u64, head: Single, parts: &[Tree]) -> Result<E
 
 #[cycle(expressions)]
 fn pair_form(alloc: Global, at: u64, head: Pair, parts: &[Tree]) -> Result<Expr, ShapeFault>
-    ensures { Reads (faults_of at (expr_items (h.Pair head) (nodes (map node parts.now))) (nodes (map node parts.now))) (HoldsForm form_of_expr keeps_expr at (pair_word head) (nodes (map node parts.now))) result }
+    ensures { ParsesExpr at (h.Pair head) (nodes (map node parts.now)) result }
 {
     let (a, b) = two(at, parts)?;
     let a = read_boxed(alloc, a)?;
@@ -104,9 +105,9 @@ fn pair_form(alloc: Global, at: u64, head: Pair, parts: &[Tree]) -> Result<Expr,
 }
 
 #[cycle(expressions)]
-#[tactic(auto, using(crate::specs::FormLaws::expr_forms, crate::specs::KeptLaws::expr_kepts))]
+#[tactic(auto, using(crate::specs::FoldRows::expr_rows), unfolding(crate::specs::Form::form_of_expr, crate::specs::KeepsTable::keeps_expr))]
 fn if_form(alloc: Global, at: u64, parts: &[Tree]) -> Result<Expr, ShapeFault>
-    ensures { Reads (faults_of at (expr_items h.If (nodes (map node parts.now))) (nodes (map node parts.now))) (HoldsForm form_of_expr keeps_expr at (head_word h.If) (nodes (map node parts.now))) result }
+    ensures { ParsesExpr at h.If (nodes (map node parts.now)) result }
 {
     let (c, a, b) = three(at, parts)?;
     let c = read_boxed(alloc, c)?;
@@ -116,9 +117,9 @@ fn if_form(alloc: Global, at: u64, parts: &[Tree]) -> Result<Expr, ShapeFault>
 }
 
 #[cycle(expressions)]
-#[tactic(auto, using(crate::specs::FormLaws::expr_forms, crate::specs::KeptLaws::expr_kepts))]
+#[tactic(auto, using(crate::specs::FoldRows::expr_rows), unfolding(crate::specs::Form::form_of_expr, crate::specs::KeepsTable::keeps_expr))]
 fn cast_form(alloc: Global, at: u64, parts: &[Tree]) -> Result<Expr, ShapeFault>
-    ensures { Reads (faults_of at (expr_items h.Cast (nodes (map node parts.now))) (nodes (map node parts.now))) (HoldsForm form_of_expr keeps_expr at (head_word h.Cast) (nodes (map node parts.now))) result }
+    ensures { ParsesExpr at h.Cast (nodes (map node parts.now)) result }
 {
     let (to, a) = two(at, parts)?;
     let to = read_type(alloc, to)?;
@@ -127,9 +128,9 @@ fn cast_form(alloc: Global, at: u64, parts: &[Tree]) -> Result<Expr, ShapeFault>
 }
 
 #[cycle(expressions)]
-#[tactic(auto, using(crate::specs::FormLaws::expr_forms, crate::specs::KeptLaws::expr_kepts))]
+#[tactic(auto, using(crate::specs::FoldRows::expr_rows), unfolding(crate::specs::Form::form_of_expr, crate::specs::KeepsTable::keeps_expr))]
 fn field_form(alloc: Global, at: u64, parts: &[Tree]) -> Result<Expr, ShapeFault>
-    ensures { Reads (faults_of at (expr_items h.Field (nodes (map node parts.now))) (nodes (map node parts.now))) (HoldsForm form_of_expr keeps_expr at (head_word h.Field) (nodes (map node parts.now))) result }
+    ensures { ParsesExpr at h.Field (nodes (map node parts.now)) result }
 {
     let (a, member) = two(at, parts)?;
     let a = read_boxed(alloc, a)?;
@@ -138,9 +139,9 @@ fn field_form(alloc: Global, at: u64, parts: &[Tree]) -> Result<Expr, ShapeFault
 }
 
 #[cycle(expressions)]
-#[tactic(auto, using(crate::specs::FormLaws::expr_forms, crate::specs::KeptLaws::expr_kepts, crate::proofs::Counts::kept_counts))]
+#[tactic(auto, using(crate::specs::FoldRows::expr_rows, crate::proofs::Counts::kept_counts), unfolding(crate::specs::Form::form_of_expr, crate::specs::KeepsTable::keeps_expr))]
 fn array_form(alloc: Global, at: u64, parts: &[Tree]) -> Result<Expr, ShapeFault>
-    ensures { Reads (faults_of at (expr_items h.Array (nodes (map node parts.now))) (nodes (map node parts.now))) (HoldsForm form_of_expr keeps_expr at (head_word h.Array) (nodes (map node parts.now))) result }
+    ensures { ParsesExpr at h.Array (nodes (map node parts.now)) result }
 {
     some_up_to(at, parts, 1024)?;
     let items = read_exprs(alloc, parts)?;
@@ -149,9 +150,9 @@ fn array_form(alloc: Global, at: u64, parts: &[Tree]) -> Result<Expr, ShapeFault
 }
 
 #[cycle(expressions)]
-#[tactic(auto, using(crate::specs::FormLaws::expr_forms, crate::specs::KeptLaws::expr_kepts, crate::proofs::Counts::kept_counts))]
+#[tactic(auto, using(crate::specs::FoldRows::expr_rows, crate::proofs::Counts::kept_counts), unfolding(crate::specs::Form::form_of_expr, crate::specs::KeepsTable::keeps_expr))]
 fn record_form(alloc: Global, at: u64, parts: &[Tree]) -> Result<Expr, ShapeFault>
-    ensures { Reads (faults_of at (expr_items h.Record (nodes (map node parts.now))) (nodes (map node parts.now))) (HoldsForm form_of_expr keeps_expr at (head_word h.Record) (nodes (map node parts.now))) result }
+    ensures { ParsesExpr at h.Record (nodes (map node parts.now)) result }
 {
     let (name, rest) = first(at, parts)?;
     some_item(at, rest)?;
@@ -163,7 +164,7 @@ fn record_form(alloc: Global, at: u64, parts: &[Tree]) -> Result<Expr, ShapeFaul
 
 #[cycle(expressions)]
 fn bounded_form(alloc: Global, at: u64, head: Bounded, parts: &[Tree]) -> Result<Expr, ShapeFault>
-    ensures { Reads (faults_of at (expr_items (h.Bounded head) (nodes (map node parts.now))) (nodes (map node parts.now))) (HoldsForm form_of_expr keeps_expr at (bounded_word head) (nodes (map node parts.now))) result }
+    ensures { ParsesExpr at (h.Bounded head) (nodes (map node parts.now)) result }
 {
     let (low, high, p) = three(at, parts)?;
     let (low, high) = read_bounds(low, high)?;
@@ -172,9 +173,9 @@ fn bounded_form(alloc: Global, at: u64, head: Bounded, parts: &[Tree]) -> Result
 }
 
 #[cycle(expressions)]
-#[tactic(auto, using(crate::specs::FormLaws::expr_forms, crate::specs::KeptLaws::expr_kepts))]
+#[tactic(auto, using(crate::specs::FoldRows::expr_rows), unfolding(crate::specs::Form::form_of_expr, crate::specs::KeepsTable::keeps_expr))]
 fn since_in_form(alloc: Global, at: u64, parts: &[Tree]) -> Result<Expr, ShapeFault>
-    ensures { Reads (faults_of at (expr_items h.SinceIn (nodes (map node parts.now))) (nodes (map node parts.now))) (HoldsForm form_of_expr keeps_expr at (head_word h.SinceIn) (nodes (map node parts.now))) result }
+    ensures { ParsesExpr at h.SinceIn (nodes (map node parts.now)) result }
 {
     let (low, high, p, q) = four(at, parts)?;
     let (low, high) = read_bounds(low, high)?;
@@ -192,7 +193,7 @@ fn since_in_form(alloc: Global, at: u64, parts: &[Tree]) -> Result<Expr, ShapeFa
 #[cycle(expressions)]
 #[tactic(auto, using(crate::proofs::Counts::kept_counts))]
 fn vote_form(alloc: Global, at: u64, head: Vote, parts: &[Tree]) -> Result<Expr, ShapeFault>
-    ensures { Reads (faults_of at (expr_items (h.Vote head) (nodes (map node parts.now))) (nodes (map node parts.now))) (HoldsForm form_of_expr keeps_expr at (vote_word head) (nodes (map node parts.now))) result }
+    ensures { ParsesExpr at (h.Vote head) (nodes (map node parts.now)) result }
 {
     some_up_to(at, parts, 9)?;
     let items = read_exprs(alloc, parts)?;
@@ -201,7 +202,7 @@ fn vote_form(alloc: Global, at: u64, head: Vote, parts: &[Tree]) -> Result<Expr,
 
 #[cycle(expressions)]
 fn window_form(alloc: Global, at: u64, head: Window, parts: &[Tree]) -> Result<Expr, ShapeFault>
-    ensures { Reads (faults_of at (expr_items (h.Window head) (nodes (map node parts.now))) (nodes (map node parts.now))) (HoldsForm form_of_expr keeps_expr at (window_word head) (nodes (map node parts.now))) result }
+    ensures { ParsesExpr at (h.Window head) (nodes (map node parts.now)) result }
 {
     let (n, e) = two(at, parts)?;
     let n = read_number(n, 1, 12)?;
@@ -211,7 +212,7 @@ fn window_form(alloc: Global, at: u64, head: Window, parts: &[Tree]) -> Result<E
 
 #[cycle(expressions)]
 fn expr_form(alloc: Global, at: u64, head: Head, parts: &[Tree]) -> Result<Expr, ShapeFault>
-    ensures { Reads (faults_of at (expr_items head (nodes (map node parts.now))) (nodes (map node parts.now))) (HoldsForm form_of_expr keeps_expr at (head_word head) (nodes (map node parts.now))) result }
+    ensures { ParsesExpr at head (nodes (map node parts.now)) result }
 {
     match head {
         Head::Drop => drop_form(alloc, at, parts),
@@ -232,7 +233,7 @@ fn expr_form(alloc: Global, at: u64, head: Head, parts: &[Tree]) -> Result<Expr,
 
 #[cycle(expressions)]
 fn expr_list(alloc: Global, at: u64, items: &[Tree]) -> Result<Expr, ShapeFault>
-    ensures { Reads (fault_in expression (list at (nodes (map node items.now)))) (HoldsExpr (list at (nodes (map node items.now)))) result }
+    ensures { Parses (fault_in expression (list at (nodes (map node items.now)))) (HoldsExpr (list at (nodes (map node items.now)))) result }
 {
     let Some((word, parts)) = headed(items) else {
         return Err(ShapeFault::BadForm(at));
@@ -247,7 +248,7 @@ fn expr_list(alloc: Global, at: u64, items: &[Tree]) -> Result<Expr, ShapeFault>
 #[cycle(expressions)]
 #[tactic(auto, using(spec_forest::specs::NodeLaws::node_laws))]
 pub fn read_expr(alloc: Global, tree: &Tree) -> Result<Expr, ShapeFault>
-    ensures { Reads (fault_in expression (node tree.now)) (HoldsExpr (node tree.now)) result }
+    ensures { Parses (fault_in expression (node tree.now)) (HoldsExpr (node tree.now)) result }
 {
     match tree {
         Tree::Atom { at, text } => expr_atom(alloc, *at, text.bytes()),
@@ -257,7 +258,7 @@ pub fn read_expr(alloc: Global, tree: &Tree) -> Result<Expr, ShapeFault>
 
 #[cycle(expressions)]
 fn read_boxed(alloc: Global, tree: &Tree) -> Result<Boxed<Expr>, ShapeFault>
-    ensures { Reads (fault_in expression (node tree.now)) (HoldsExpr (node tree.now)) result }
+    ensures { Parses (fault_in expression (node tree.now)) (HoldsExpr (node tree.now)) result }
 {
     let e = read_expr(alloc, tree)?;
     Ok(Boxed::new(alloc, e)?)
@@ -266,7 +267,7 @@ fn read_boxed(alloc: Global, tree: &Tree) -> Result<Boxed<Expr>, ShapeFault>
 /// Reads expressions one after another.
 #[cycle(expressions)]
 pub fn read_exprs(alloc: Global, trees: &[Tree]) -> Result<Vec<Expr>, ShapeFault>
-    ensures { Reads (fault_among [] expression (nodes (map node trees.now))) (λ v. AllHold form_of_expr keeps_expr (nodes (map node trees.now)) v.items) result }
+    ensures { ParsesEach expression form_of_expr keeps_expr (nodes (map node trees.now)) result }
 {
     let mut all = Vec::new(alloc);
     for tree in trees {

@@ -2,9 +2,10 @@
 ghost use Rattle.std.specs.Prelude.{◌≡◌, IfOk, true};
 ghost use Rattle.sm_io.specs.Words.{is_name};
 ghost use Rattle.spec_forest.specs.Node.{node};
-ghost use Rattle.spec_text.specs.Shape.{Reads, name};
+ghost use Rattle.spec_text.specs.Shape.{name};
 ghost use Rattle.spec_text.specs.FirstFault.{fault_in};
 ghost use Rattle.spec_text.specs.Holds.{HoldsName};
+ghost use Rattle.spec_text.specs.Parses.{Parses};
 
 use crate::fault::ShapeFault;
 use crate::surface::NameAt;
@@ -24,7 +25,7 @@ pub fn name_of(alloc: Global, bytes: &[u8]) -> Result<Name, AllocError>
 /// Reads a name.
 #[tactic(auto, using(spec_forest::specs::NodeLaws::node_laws))]
 pub fn read_name(alloc: Global, tree: &Tree) -> Result<NameAt, ShapeFault>
-    ensures { Reads (fault_in name (node tree.now)) (HoldsName (node tree.now)) result }
+    ensures { Parses (fault_in name (node tree.now)) (HoldsName (node tree.now)) result }
 {
     match tree {
         Tree::Atom { at, text } => {

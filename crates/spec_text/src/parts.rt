@@ -1,17 +1,18 @@
 // The items of a list, and numbers in their places.
-ghost use Rattle.std.specs.Prelude.{◌≡◌, ◌-◌, ◌≤◌, ◌<◌, ◌^◌, ◌&&◌, [], ◌∷◌, true, false, map, min, MatchOption, MatchResult, Some, None, decimal as decimal_text, nat_le};
+ghost use Rattle.std.specs.Prelude.{◌≡◌, ◌-◌, ◌≤◌, ◌<◌, ◌^◌, ◌&&◌, ℕ, true, false, map, IsSomeAnd, MatchResult, Some, nat_le};
 ghost use Rattle.std.specs.Option.{option_map};
 ghost use Rattle.spec_forest.specs.Node.{node, nodes, none, more};
-ghost use Rattle.spec_text.specs.Numbers.{is_decimal, value_of};
-ghost use Rattle.spec_text.specs.Form.{Matches, number as number_form};
-ghost use Rattle.spec_text.specs.Shape.{Reads, decimal, number, number_in, end, has_items, count};
+ghost use Rattle.spec_words.specs.Magnitudes.{magnitude_of};
+ghost use Rattle.spec_words.specs.declared.magnitudes.Magnitude.TheVariants.{Beyond};
+ghost use Rattle.spec_text.specs.Shape.{decimal, number, number_in, end, has_items};
 ghost use Rattle.spec_text.specs.FirstFault.{or_else, fault_in};
-ghost use Rattle.spec_text.specs.Holds.{HoldsNumber, HoldsBounds, HoldsClock, word_and_parts};
+ghost use Rattle.spec_text.specs.Holds.{HoldsNumber, HoldsDecimal, HoldsBounds, HoldsClock, word_and_parts};
+ghost use Rattle.spec_text.specs.Parses.{Parses, FormIff, has_between, syntax_fault};
 ghost use Rattle.spec_text.specs.declared.fault.ShapeFault.TheVariants.{BadForm};
 
 use crate::fault::ShapeFault;
-use crate::numbers::size_of;
 use spec_forest::Tree;
+use spec_words::{Magnitude, decimal_between, decimal_of};
 
 /// The word that begins a list, and the items behind it.
 #[tactic(auto, using(spec_forest::specs::NodeLaws::node_laws))]
@@ -27,14 +28,16 @@ pub fn headed(items: &[Tree]) -> Option<(&[u8], &[Tree])>
 
 /// The first item and the others.
 pub fn first(at: u64, parts: &[Tree]) -> Result<(&Tree, &[Tree]), ShapeFault>
-    ensures { MatchResult result (λ p. nodes (map node parts.now) ≡ more (node p.0.now) (nodes (map node p.1.now))) (λ e. (e ≡ BadForm at) × (nodes (map node parts.now) ≡ none)) }
+    ensures { MatchResult result (λ p. nodes (map node parts.now) ≡ more (node p.0.now) (nodes (map node p.1.now)))
+        (λ e. (e ≡ BadForm at) × (nodes (map node parts.now) ≡ none)) }
 {
     parts.split_first().ok_or(ShapeFault::BadForm(at))
 }
 
 /// The one item.
 pub fn one(at: u64, parts: &[Tree]) -> Result<&Tree, ShapeFault>
-    ensures { MatchResult result (λ a. nodes (map node parts.now) ≡ more (node a.now) none) (λ e. (e ≡ BadForm at) × (has_items 1 end (nodes (map node parts.now)) ≡ false)) }
+    ensures { MatchResult result (λ a. nodes (map node parts.now) ≡ more (node a.now) none)
+        (λ e. (e ≡ BadForm at) × (has_items 1 end (nodes (map node parts.now)) ≡ false)) }
 {
     let (a, rest) = first(at, parts)?;
     match rest.split_first() {
@@ -46,7 +49,8 @@ pub fn one(at: u64, parts: &[Tree]) -> Result<&Tree, ShapeFault>
 /// The two items.
 #[tactic(auto, using(crate::proofs::Counts::one_more))]
 pub fn two(at: u64, parts: &[Tree]) -> Result<(&Tree, &Tree), ShapeFault>
-    ensures { MatchResult result (λ a. nodes (map node parts.now) ≡ more (node a.0.now) (more (node a.1.now) none)) (λ e. (e ≡ BadForm at) × (has_items 2 end (nodes (map node parts.now)) ≡ false)) }
+    ensures { MatchResult result (λ a. nodes (map node parts.now) ≡ more (node a.0.now) (more (node a.1.now) none))
+        (λ e. (e ≡ BadForm at) × (has_items 2 end (nodes (map node parts.now)) ≡ false)) }
 {
     let (a, rest) = first(at, parts)?;
     let b = one(at, rest)?;
@@ -56,7 +60,8 @@ pub fn two(at: u64, parts: &[Tree]) -> Result<(&Tree, &Tree), ShapeFault>
 /// The three items.
 #[tactic(auto, using(crate::proofs::Counts::one_more))]
 pub fn three(at: u64, parts: &[Tree]) -> Result<(&Tree, &Tree, &Tree), ShapeFault>
-    ensures { MatchResult result (λ a. nodes (map node parts.now) ≡ more (node a.0.now) (more (node a.1.now) (more (node a.2.now) none))) (λ e. (e ≡ BadForm at) × (has_items 3 end (nodes (map node parts.now)) ≡ false)) }
+    ensures { MatchResult result (λ a. nodes (map node parts.now) ≡ more (node a.0.now) (more (node a.1.now) (more (node a.2.now) none)))
+        (λ e. (e ≡ BadForm at) × (has_items 3 end (nodes (map node parts.now)) ≡ false)) }
 {
     let (a, rest) = first(at, parts)?;
     let (b, c) = two(at, rest)?;
@@ -66,38 +71,22 @@ pub fn three(at: u64, parts: &[Tree]) -> Result<(&Tree, &Tree, &Tree), ShapeFaul
 /// The four items.
 #[tactic(auto, using(crate::proofs::Counts::one_more))]
 pub fn four(at: u64, parts: &[Tree]) -> Result<(&Tree, &Tree, &Tree, &Tree), ShapeFault>
-    ensures { MatchResult result (λ a. nodes (map node parts.now) ≡ more (node a.0.now) (more (node a.1.now) (more (node a.2.now) (more (node a.3.now) none)))) (λ e. (e ≡ BadForm at) × (has_items 4 end (nodes (map node parts.now)) ≡ false)) }
+    ensures { MatchResult result (λ a. nodes (map node parts.now)
+        ≡ more (node a.0.now) (more (node a.1.now) (more (node a.2.now) (more (node a.3.now) none))))
+        (λ e. (e ≡ BadForm at) × (has_items 4 end (nodes (map node parts.now)) ≡ false)) }
 {
     let (a, rest) = first(at, parts)?;
     let (b, c, d) = three(at, rest)?;
     Ok((a, b, c, d))
 }
 
-// The number that a decimal from `low` to `high` writes.
-fn number_between(text: &[u8], low: u128, high: u32) -> Option<u32>
-    requires { low ≤ 18446744073709551616 }
-    ensures { MatchOption result ((is_decimal text.now && (nat_le low (value_of text.now) && nat_le (value_of text.now) high)) ≡ false)
-        (λ n. ((is_decimal text.now && (nat_le low (value_of text.now) && nat_le (value_of text.now) high)) ≡ true)
-        × (text.now ≡ decimal_text n) × (low ≤ n) × (n ≤ high) × (n ≡ value_of text.now)) }
-{
-    let size = size_of(text)?;
-    if size < low {
-        return None;
-    }
-    if size > u128::from(high) {
-        return None;
-    }
-    u32::try_from(size).ok()
-}
-
 /// Reads a decimal from `low` to `high`.
 #[tactic(auto, using(spec_forest::specs::NodeLaws::node_laws))]
-pub fn read_number(tree: &Tree, low: u128, high: u32) -> Result<u32, ShapeFault>
-    requires { low ≤ 18446744073709551616 }
-    ensures { Reads (fault_in (number low high) (node tree.now)) (HoldsNumber low high (node tree.now)) result }
+pub fn read_number(tree: &Tree, low: u64, high: u32) -> Result<u32, ShapeFault>
+    ensures { Parses (fault_in (number low high) (node tree.now)) (HoldsNumber low high (node tree.now)) result }
 {
     match tree {
-        Tree::Atom { at, text } => match number_between(text.bytes(), low, high) {
+        Tree::Atom { at, text } => match decimal_between(text.bytes(), low, high) {
             Some(n) => Ok(n),
             None => Err(ShapeFault::BadLiteral(*at)),
         },
@@ -105,32 +94,47 @@ pub fn read_number(tree: &Tree, low: u128, high: u32) -> Result<u32, ShapeFault>
     }
 }
 
-// Reads a decimal of any size: its number, or 2^64 where it is more.
+// Reads a decimal of any size.
 #[tactic(auto, using(spec_forest::specs::NodeLaws::node_laws))]
-fn read_size(tree: &Tree) -> Result<u128, ShapeFault>
-    ensures { Reads (fault_in decimal (node tree.now)) (λ n. (n ≡ min (number_in (node tree.now)) 18446744073709551616) × (n < 18446744073709551616 → Matches (number_form n) (node tree.now))) result }
+fn read_decimal(tree: &Tree) -> Result<Magnitude, ShapeFault>
+    ensures { Parses (fault_in decimal (node tree.now)) (HoldsDecimal (node tree.now)) result }
 {
     match tree {
-        Tree::Atom { at, text } => match size_of(text.bytes()) {
+        Tree::Atom { at, text } => match decimal_of(text.bytes()) {
             Some(n) => Ok(n),
             None => Err(ShapeFault::BadLiteral(*at)),
         },
         Tree::List { at, .. } => Err(ShapeFault::BadLiteral(*at)),
+    }
+}
+
+// Refuses a second bound that is below the first.
+#[tactic(auto, using(spec_forest::specs::NodeLaws::node_laws))]
+fn below_bound(high: &Tree) -> ShapeFault
+    ensures { (low : ℕ) → magnitude_of low ≡ Beyond → IsSomeAnd (syntax_fault result) (λ f. fault_in (number low 128) (node high.now) ≡ Some f) }
+{
+    match high {
+        Tree::Atom { at, .. } => ShapeFault::BadLiteral(*at),
+        Tree::List { at, .. } => ShapeFault::BadLiteral(*at),
     }
 }
 
 /// Reads the two bounds of a form: the first a decimal of any size, the second from the first to 128.
 pub fn read_bounds(low: &Tree, high: &Tree) -> Result<(u32, u32), ShapeFault>
-    ensures { Reads (or_else (fault_in decimal (node low.now)) (fault_in (number (number_in (node low.now)) 128) (node high.now))) (HoldsBounds (node low.now) (node high.now)) result }
+    ensures { Parses (or_else (fault_in decimal (node low.now)) (fault_in (number (number_in (node low.now)) 128) (node high.now)))
+        (HoldsBounds (node low.now) (node high.now)) result }
 {
-    let size = read_size(low)?;
-    let most = read_number(high, size, 128)?;
-    Ok((size as u32, most))
+    let Magnitude::Of(least) = read_decimal(low)? else {
+        return Err(below_bound(high));
+    };
+    let most = read_number(high, least, 128)?;
+    Ok((least as u32, most))
 }
 
 /// Reads a period, from 1 on, and a phase below it.
 pub fn read_clock(period: &Tree, phase: &Tree) -> Result<(u32, u32), ShapeFault>
-    ensures { Reads (or_else (fault_in (number 1 4294967295) (node period.now)) (fault_in (number 0 (number_in (node period.now) - 1)) (node phase.now))) (HoldsClock (node period.now) (node phase.now)) result }
+    ensures { Parses (or_else (fault_in (number 1 4294967295) (node period.now)) (fault_in (number 0 (number_in (node period.now) - 1)) (node phase.now)))
+        (HoldsClock (node period.now) (node phase.now)) result }
 {
     let steps = read_number(period, 1, u32::MAX)?;
     let phase = read_number(phase, 0, steps - 1)?;
@@ -140,7 +144,7 @@ pub fn read_clock(period: &Tree, phase: &Tree) -> Result<(u32, u32), ShapeFault>
 /// One item at least.
 #[tactic(auto, using(crate::proofs::Counts::counts))]
 pub fn some_item(at: u64, parts: &[Tree]) -> Result<(), ShapeFault>
-    ensures { MatchResult result (λ _. (nat_le 1 (count (nodes (map node parts.now))) && true) ≡ true) (λ e. (e ≡ BadForm at) × ((nat_le 1 (count (nodes (map node parts.now))) && true) ≡ false)) }
+    ensures { FormIff at (has_between 1 None (nodes (map node parts.now))) result }
 {
     if parts.is_empty() {
         return Err(ShapeFault::BadForm(at));
@@ -151,7 +155,7 @@ pub fn some_item(at: u64, parts: &[Tree]) -> Result<(), ShapeFault>
 /// One item at least, and at most so many.
 #[tactic(auto, using(crate::proofs::Counts::counts))]
 pub fn some_up_to(at: u64, parts: &[Tree], most: usize) -> Result<(), ShapeFault>
-    ensures { MatchResult result (λ _. (nat_le 1 (count (nodes (map node parts.now))) && nat_le (count (nodes (map node parts.now))) most) ≡ true) (λ e. (e ≡ BadForm at) × ((nat_le 1 (count (nodes (map node parts.now))) && nat_le (count (nodes (map node parts.now))) most) ≡ false)) }
+    ensures { FormIff at (has_between 1 (Some most) (nodes (map node parts.now))) result }
 {
     if parts.is_empty() {
         return Err(ShapeFault::BadForm(at));
@@ -165,7 +169,7 @@ pub fn some_up_to(at: u64, parts: &[Tree], most: usize) -> Result<(), ShapeFault
 /// At most so many items.
 #[tactic(auto, using(crate::proofs::Counts::counts))]
 pub fn up_to(at: u64, parts: &[Tree], most: usize) -> Result<(), ShapeFault>
-    ensures { MatchResult result (λ _. (nat_le 0 (count (nodes (map node parts.now))) && nat_le (count (nodes (map node parts.now))) most) ≡ true) (λ e. (e ≡ BadForm at) × ((nat_le 0 (count (nodes (map node parts.now))) && nat_le (count (nodes (map node parts.now))) most) ≡ false)) }
+    ensures { FormIff at (has_between 0 (Some most) (nodes (map node parts.now))) result }
 {
     if parts.len() > most {
         return Err(ShapeFault::BadForm(at));

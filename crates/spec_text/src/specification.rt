@@ -1,30 +1,30 @@
 // Declarations and the whole specification in a forest.
-ghost use Rattle.std.specs.Prelude.{◌≡◌, ◌==◌, ◌||◌, ℕ, [], map, IsTrue, IfSome, true, None, Some};
+ghost use Rattle.std.specs.Prelude.{◌≡◌, ◌==◌, ◌||◌, ℕ, map, IsTrue, IfSome, IsSomeAnd, true, None, Some};
 ghost use Rattle.spec_forest.specs.Node.{node, nodes, list};
-ghost use Rattle.spec_text.specs.Shape.{Reads, top, declaration, field, initial, decl_items, spec_items, most_initial, version_of, shape_fault, extra};
-ghost use Rattle.spec_text.specs.FirstFault.{fault_in, fault_among, faults_of, top_fault};
-ghost use Rattle.spec_text.specs.Holds.{HoldsForm, HoldsField, HoldsDecl, AllHold, Holds};
-ghost use Rattle.spec_text.specs.Form.{form, forms, form_of, form_of_const, form_of_field, form_of_decl, spec_word, Matches, AllMatch, none, more, IsSurfaceOf};
-ghost use Rattle.spec_text.specs.Kept.{keeps_const, keeps_field, keeps_decl, keeps_table, kept_from, KeepsTable};
-ghost use Rattle.spec_text.specs.Words.{decl_word};
-ghost use Rattle.spec_text.specs.declared.head.DeclHead.TheVariants as h;
+ghost use Rattle.spec_text.specs.Shape.{top, declaration, field, initial, spec_items, most_initial, shape_fault, extra};
+ghost use Rattle.spec_text.specs.FirstFault.{fault_in, top_fault};
+ghost use Rattle.spec_text.specs.Holds.{HoldsField, HoldsDecl, Holds};
+ghost use Rattle.spec_text.specs.Parses.{Parses, ParsesForm, ParsesDecl, ParsesEach, syntax_fault};
+ghost use Rattle.spec_text.specs.Form.{form, forms, form_of, form_of_const, form_of_field, form_of_decl, Matches, AllMatch, none, more, IsSurfaceOf};
+ghost use Rattle.spec_text.specs.KeepsTable.{keeps_const, keeps_field, keeps_decl, keeps_table, kept_from, KeepsTable};
+ghost use Rattle.spec_words.specs.Words.{decl_word, version_of, spec_word};
+ghost use Rattle.spec_words.specs.declared.head.DeclHead.TheVariants as h;
 
 use crate::constants::read_constants;
 use crate::expressions::{read_expr, read_exprs};
 use crate::fault::ShapeFault;
-use crate::head::DeclHead;
 use crate::names::read_name;
 use crate::parts::{first, four, headed, some_up_to, three, two, up_to};
 use crate::surface::{ConstForm, Decl, FieldForm, Surface};
 use crate::types::read_type;
-use crate::words::decl_head;
 use sm_io::Seq;
 use spec_forest::{Forest, Tree};
+use spec_words::{DeclHead, decl_head, version_of};
 use std::alloc::Global;
 
 #[tactic(auto, using(spec_forest::specs::NodeLaws::node_laws))]
 fn read_field(alloc: Global, tree: &Tree) -> Result<FieldForm, ShapeFault>
-    ensures { Reads (fault_in field (node tree.now)) (HoldsField (node tree.now)) result }
+    ensures { Parses (fault_in field (node tree.now)) (HoldsField (node tree.now)) result }
 {
     match tree {
         Tree::Atom { at, .. } => Err(ShapeFault::BadForm(*at)),
@@ -39,7 +39,7 @@ fn read_field(alloc: Global, tree: &Tree) -> Result<FieldForm, ShapeFault>
 }
 
 fn read_fields(alloc: Global, trees: &[Tree]) -> Result<Vec<FieldForm>, ShapeFault>
-    ensures { Reads (fault_among [] field (nodes (map node trees.now))) (λ v. AllHold form_of_field keeps_field (nodes (map node trees.now)) v.items) result }
+    ensures { ParsesEach field form_of_field keeps_field (nodes (map node trees.now)) result }
 {
     let mut all = Vec::new(alloc);
     for tree in trees {
@@ -59,7 +59,8 @@ fn most_initial(version: u32) -> usize
 // Reads a stream's list of constants.
 #[tactic(auto, using(spec_forest::specs::NodeLaws::node_laws, crate::proofs::Counts::kept_counts))]
 fn read_initial(alloc: Global, version: u32, tree: &Tree) -> Result<Vec<ConstForm>, ShapeFault>
-    ensures { Reads (fault_in (initial version) (node tree.now)) (λ v. Matches (form None (forms (map form_of_const v.items))) (node tree.now) × IsTrue (kept_from 1 (most_initial version) (map keeps_const v.items))) result }
+    ensures { Parses (fault_in (initial version) (node tree.now)) (λ v. Matches (form None (forms (map form_of_const v.items))) (node tree.now)
+        × IsTrue (kept_from 1 (most_initial version) (map keeps_const v.items))) result }
 {
     match tree {
         Tree::Atom { at, .. } => Err(ShapeFault::BadForm(*at)),
@@ -72,7 +73,7 @@ fn read_initial(alloc: Global, version: u32, tree: &Tree) -> Result<Vec<ConstFor
 
 #[tactic(auto, using(crate::proofs::Counts::kept_counts))]
 fn struct_decl(alloc: Global, at: u64, parts: &[Tree]) -> Result<Decl, ShapeFault>
-    ensures { (version : ℕ) → Reads (faults_of at (decl_items version h.Struct) (nodes (map node parts.now))) (HoldsForm form_of_decl (keeps_decl version) at (decl_word h.Struct) (nodes (map node parts.now))) result }
+    ensures { (version : ℕ) → ParsesDecl version at h.Struct (nodes (map node parts.now)) result }
 {
     let (name, fields) = first(at, parts)?;
     some_up_to(at, fields, 64)?;
@@ -83,7 +84,7 @@ fn struct_decl(alloc: Global, at: u64, parts: &[Tree]) -> Result<Decl, ShapeFaul
 }
 
 fn extern_decl(alloc: Global, at: u64, parts: &[Tree]) -> Result<Decl, ShapeFault>
-    ensures { (version : ℕ) → Reads (faults_of at (decl_items version h.Extern) (nodes (map node parts.now))) (HoldsForm form_of_decl (keeps_decl version) at (decl_word h.Extern) (nodes (map node parts.now))) result }
+    ensures { (version : ℕ) → ParsesDecl version at h.Extern (nodes (map node parts.now)) result }
 {
     let (name, ty) = two(at, parts)?;
     let name = read_name(alloc, name)?;
@@ -92,7 +93,7 @@ fn extern_decl(alloc: Global, at: u64, parts: &[Tree]) -> Result<Decl, ShapeFaul
 }
 
 fn stream_decl(alloc: Global, at: u64, version: u32, parts: &[Tree]) -> Result<Decl, ShapeFault>
-    ensures { Reads (faults_of at (decl_items version h.Stream) (nodes (map node parts.now))) (HoldsForm form_of_decl (keeps_decl version) at (decl_word h.Stream) (nodes (map node parts.now))) result }
+    ensures { ParsesDecl version at h.Stream (nodes (map node parts.now)) result }
 {
     let (name, ty, init, expr) = four(at, parts)?;
     let name = read_name(alloc, name)?;
@@ -110,7 +111,7 @@ fn stream_decl(alloc: Global, at: u64, version: u32, parts: &[Tree]) -> Result<D
 }
 
 fn def_decl(alloc: Global, at: u64, parts: &[Tree]) -> Result<Decl, ShapeFault>
-    ensures { (version : ℕ) → Reads (faults_of at (decl_items version h.Def) (nodes (map node parts.now))) (HoldsForm form_of_decl (keeps_decl version) at (decl_word h.Def) (nodes (map node parts.now))) result }
+    ensures { (version : ℕ) → ParsesDecl version at h.Def (nodes (map node parts.now)) result }
 {
     let (name, ty, expr) = three(at, parts)?;
     let name = read_name(alloc, name)?;
@@ -121,7 +122,7 @@ fn def_decl(alloc: Global, at: u64, parts: &[Tree]) -> Result<Decl, ShapeFault>
 
 #[tactic(auto, using(crate::proofs::Counts::kept_counts))]
 fn trigger_decl(alloc: Global, at: u64, parts: &[Tree]) -> Result<Decl, ShapeFault>
-    ensures { (version : ℕ) → Reads (faults_of at (decl_items version h.Trigger) (nodes (map node parts.now))) (HoldsForm form_of_decl (keeps_decl version) at (decl_word h.Trigger) (nodes (map node parts.now))) result }
+    ensures { (version : ℕ) → ParsesDecl version at h.Trigger (nodes (map node parts.now)) result }
 {
     let (name, rest) = first(at, parts)?;
     let (guard, args) = first(at, rest)?;
@@ -139,7 +140,7 @@ fn trigger_decl(alloc: Global, at: u64, parts: &[Tree]) -> Result<Decl, ShapeFau
 }
 
 fn observer_decl(alloc: Global, at: u64, parts: &[Tree]) -> Result<Decl, ShapeFault>
-    ensures { (version : ℕ) → Reads (faults_of at (decl_items version h.Observer) (nodes (map node parts.now))) (HoldsForm form_of_decl (keeps_decl version) at (decl_word h.Observer) (nodes (map node parts.now))) result }
+    ensures { (version : ℕ) → ParsesDecl version at h.Observer (nodes (map node parts.now)) result }
 {
     let (name, expr) = two(at, parts)?;
     let name = read_name(alloc, name)?;
@@ -154,7 +155,7 @@ fn decl_form(
     head: DeclHead,
     parts: &[Tree],
 ) -> Result<Decl, ShapeFault>
-    ensures { Reads (faults_of at (decl_items version head) (nodes (map node parts.now))) (HoldsForm form_of_decl (keeps_decl version) at (decl_word head) (nodes (map node parts.now))) result }
+    ensures { ParsesDecl version at head (nodes (map node parts.now)) result }
 {
     match head {
         DeclHead::Struct => struct_decl(alloc, at, parts),
@@ -167,7 +168,7 @@ fn decl_form(
 }
 
 fn decl_list(alloc: Global, version: u32, at: u64, items: &[Tree]) -> Result<Decl, ShapeFault>
-    ensures { Reads (fault_in (declaration version) (list at (nodes (map node items.now)))) (HoldsDecl version (list at (nodes (map node items.now)))) result }
+    ensures { Parses (fault_in (declaration version) (list at (nodes (map node items.now)))) (HoldsDecl version (list at (nodes (map node items.now)))) result }
 {
     let Some((word, parts)) = headed(items) else {
         return Err(ShapeFault::BadForm(at));
@@ -180,7 +181,7 @@ fn decl_list(alloc: Global, version: u32, at: u64, items: &[Tree]) -> Result<Dec
 
 #[tactic(auto, using(spec_forest::specs::NodeLaws::node_laws))]
 fn read_decl(alloc: Global, version: u32, tree: &Tree) -> Result<Decl, ShapeFault>
-    ensures { Reads (fault_in (declaration version) (node tree.now)) (HoldsDecl version (node tree.now)) result }
+    ensures { Parses (fault_in (declaration version) (node tree.now)) (HoldsDecl version (node tree.now)) result }
 {
     match tree {
         Tree::Atom { at, .. } => Err(ShapeFault::BadForm(*at)),
@@ -189,7 +190,7 @@ fn read_decl(alloc: Global, version: u32, tree: &Tree) -> Result<Decl, ShapeFaul
 }
 
 fn read_decls(alloc: Global, version: u32, trees: &[Tree]) -> Result<Vec<Decl>, ShapeFault>
-    ensures { Reads (fault_among [] (declaration version) (nodes (map node trees.now))) (λ v. AllHold form_of_decl (keeps_decl version) (nodes (map node trees.now)) v.items) result }
+    ensures { ParsesEach (declaration version) form_of_decl (keeps_decl version) (nodes (map node trees.now)) result }
 {
     let mut all = Vec::new(alloc);
     for tree in trees {
@@ -199,23 +200,11 @@ fn read_decls(alloc: Global, version: u32, trees: &[Tree]) -> Result<Vec<Decl>, 
     Ok(all)
 }
 
-// The version whose texts begin with this word.
-fn version_of(word: &[u8]) -> Option<u32>
-    ensures version { result ≡ version_of word.now }
-    ensures known { IfSome result (λ v. (v == 1 || v == 2) ≡ true) }
-{
-    match word {
-        b"spec" => Some(1),
-        b"spec2" => Some(2),
-        _ => None,
-    }
-}
-
 // Reads what stands behind the word: the name and the declarations.
-#[tactic(auto, unfolding(crate::specs::Kept::keeps_table))]
+#[tactic(auto, unfolding(crate::specs::KeepsTable::keeps_table))]
 fn read_body(alloc: Global, version: u32, parts: &[Tree]) -> Result<Surface, ShapeFault>
     requires { (version == 1 || version == 2) ≡ true }
-    ensures { Reads (faults_of 0 (spec_items version) (nodes (map node parts.now))) (HoldsForm form_of keeps_table 0 (spec_word version) (nodes (map node parts.now))) result }
+    ensures { ParsesForm form_of keeps_table 0 (spec_word version) (spec_items version) (nodes (map node parts.now)) result }
 {
     let (name, rest) = first(0, parts)?;
     let name = read_name(alloc, name)?.name;
@@ -229,7 +218,7 @@ fn read_body(alloc: Global, version: u32, parts: &[Tree]) -> Result<Surface, Sha
 }
 
 fn spec_list(alloc: Global, at: u64, items: &[Tree]) -> Result<Surface, ShapeFault>
-    ensures { Reads (fault_in top (list at (nodes (map node items.now)))) (Holds form_of keeps_table (list at (nodes (map node items.now)))) result }
+    ensures { Parses (fault_in top (list at (nodes (map node items.now)))) (Holds form_of keeps_table (list at (nodes (map node items.now)))) result }
 {
     let _at = at;
     let Some((word, parts)) = headed(items) else {
@@ -243,7 +232,7 @@ fn spec_list(alloc: Global, at: u64, items: &[Tree]) -> Result<Surface, ShapeFau
 
 #[tactic(auto, using(spec_forest::specs::NodeLaws::node_laws))]
 fn read_spec(alloc: Global, tree: &Tree) -> Result<Surface, ShapeFault>
-    ensures { Reads (fault_in top (node tree.now)) (Holds form_of keeps_table (node tree.now)) result }
+    ensures { Parses (fault_in top (node tree.now)) (Holds form_of keeps_table (node tree.now)) result }
 {
     match tree {
         Tree::Atom { .. } => Err(ShapeFault::BadForm(0)),
@@ -254,7 +243,7 @@ fn read_spec(alloc: Global, tree: &Tree) -> Result<Surface, ShapeFault>
 // The fault of a further item at the top.
 #[tactic(auto, using(spec_forest::specs::NodeLaws::node_laws))]
 fn extra_fault(tree: &Tree) -> ShapeFault
-    ensures { fault_in extra (node tree.now) ≡ Some result }
+    ensures { IsSomeAnd (syntax_fault result) (λ f. fault_in extra (node tree.now) ≡ Some f) }
 {
     match tree {
         Tree::Atom { at, .. } => ShapeFault::BadForm(*at),
@@ -264,7 +253,7 @@ fn extra_fault(tree: &Tree) -> ShapeFault
 
 // Reads the one item at the top.
 fn read_top(alloc: Global, trees: &[Tree]) -> Result<Surface, ShapeFault>
-    ensures { Reads (top_fault (nodes (map node trees.now))) (λ s. AllMatch (more (form_of s) none) (nodes (map node trees.now)) × KeepsTable s) result }
+    ensures { Parses (top_fault (nodes (map node trees.now))) (λ s. AllMatch (more (form_of s) none) (nodes (map node trees.now)) × KeepsTable s) result }
 {
     let (spec, rest) = first(0, trees)?;
     let surface = read_spec(alloc, spec)?;
@@ -276,7 +265,7 @@ fn read_top(alloc: Global, trees: &[Tree]) -> Result<Surface, ShapeFault>
 
 /// Reads the specification that a forest holds, or tells the first node in preorder that doesn't fit its place.
 pub fn declarations(alloc: Global, forest: &Forest) -> Result<Surface, ShapeFault>
-    ensures { Reads (shape_fault forest.now) (λ s. IsSurfaceOf forest.now s × KeepsTable s) result }
+    ensures { Parses (shape_fault forest.now) (λ s. IsSurfaceOf forest.now s × KeepsTable s) result }
 {
     read_top(alloc, forest.items.as_slice())
 }

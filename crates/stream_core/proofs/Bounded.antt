@@ -7,6 +7,7 @@ use Rattle.stream_core.specs.Library.{some_below, bool_word}
 use Rattle.stream_core.specs.Term.{Term}
 use Rattle.stream_core.specs.Lower.{or_all, ago, agos}
 use Rattle.stream_core.specs.Eval.{Moment, value, on_test, entry_at}
+use Rattle.std.proofs.Math.Bool.{or-false}
 
 abbrev some_from : (ℕ → Bool) → ℕ → ℕ → Bool
 some_from f i zero = false
@@ -16,12 +17,8 @@ or_assoc : (x y z : Bool) → ((x || y) || z) ≡ (x || (y || z))
 or_assoc true y z = refl
 or_assoc false y z = refl
 
-or_false : (x : Bool) → (x || false) ≡ x
-or_false true = refl
-or_false false = refl
-
 from_last : (f : ℕ → Bool) (i n : ℕ) → some_from f i (suc n) ≡ (some_from f i n || f (i + n))
-from_last f i zero = or_false (f i) ∙ ap f (let e : i ≡ i + 0 = omega arith in e)
+from_last f i zero = or-false (f i) ∙ ap f (let e : i ≡ i + 0 = omega arith in e)
 from_last f i (suc n) =
     ap (λ x. f i || x) (from_last f (i + 1) n)
     ∙ sym (or_assoc (f i) (some_from f (i + 1) n) (f (i + 1 + n)))
@@ -52,7 +49,7 @@ module _ (m : Moment) (b depth : ℕ) (P : ℕ → Bool) (early : (i : ℕ) → 
           ap (λ j. Ok (entry_at m.table b j)) at ∙ ap Ok (late (m.time - i) (omega (arith, p, h))) ∙ ap (λ c. Ok (bool_word (c && P (m.time - i)) ∷ [])) (sym e)
 
   pub or_chain : (n i : ℕ) (e : Term) (c : Bool) → 1 ≤ i → i + n ≤ depth + 1 → value m e ≡ Ok (bool_word c ∷ []) → value m (or_all e (agos b depth i n)) ≡ Ok (bool_word (c || some_from (λ j. nat_le j m.time && P (m.time - j)) i n) ∷ [])
-  or_chain zero i e c p q h = h ∙ ap (λ x. Ok (bool_word x ∷ [])) (sym (or_false c))
+  or_chain zero i e c p q h = h ∙ ap (λ x. Ok (bool_word x ∷ [])) (sym (or-false c))
   or_chain (suc n) i e c p q h =
       let rest = or_chain n (i + 1) (ago b depth i) (nat_le i m.time && P (m.time - i)) (omega arith) (omega (arith, q)) (ago_is i p (omega (arith, q))) in
       ap (λ v. on_test v (Ok (1 ∷ [])) (value m (or_all (ago b depth i) (agos b depth (i + 1) n)))) h

@@ -54,3 +54,7 @@ majority_capped s (i ∷ is) m first others one e f p =
     let less : suc (length is) - 1 ≡ length is = omega arith in
     let all : take (suc (length is) - 1) is ≡ is = ap (λ n. take n is) less ∙ take-length is in
     votes_capped s i is m first others e (f ∙ ap (λ xs. min (nodes_weight s xs) (m - 1 - first)) all) p
+
+-- a count over the elements so far that stops at a bound: with those that are left it is the count over all
+abbrev pub Counting : {X : Type 0} → (List X → ℕ) → List X → ℕ → ℕ → ℕ → Type 0
+Counting weigh xs i total most = (total ≤ most) × (min (total + weigh (drop i xs)) most ≡ min (weigh xs) most)

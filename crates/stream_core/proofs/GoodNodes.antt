@@ -15,7 +15,7 @@ use Rattle.stream_core.specs.Term.{Term, TreeLib, lib_of, terms_of, tree, trees}
 use Rattle.stream_core.specs.WellTyped.{HasType, IsGoodLib, ListHasTypes, operand_types, terms_length, WellTyped}
 use Rattle.stream_core.specs.Weights.{IsGoodNode, IsGoodItem, heavy, heavy_at, operands}
 use Rattle.stream_core.proofs.Trees.{tree_of}
-use Rattle.stream_core.proofs.Rings.{node_there, defs_there}
+use Rattle.stream_core.proofs.Cycles.{node_there, defs_there}
 
 terms_count : (f : ℕ → Term) (is : List ℕ) → terms_length (terms_of f is) ≡ length is
 terms_count f [] = refl

@@ -1,13 +1,14 @@
 -- Each handler stands once, and each trigger's name is its handler's.
-use Rattle.std.proofs.Common.{◌≡◌, ⊎_elim, ℕ, zero, suc, ◌+◌, Bool, true, false, List, [], ◌∷◌, ◌++◌, Some, refl, sym, ap, ◌∙◌, subst, arith}
+use Rattle.std.proofs.Common.{◌≡◌, ◌⊎◌, ⊎_elim, inl, inr, ℕ, zero, suc, ◌+◌, Bool, true, false, List, [], ◌∷◌, ◌++◌, Some, refl, sym, ap, ◌∙◌, subst, arith}
 use Rattle.std.specs.Prelude.{slice_get, nat_eq, not, ◌||◌, if◌then◌else◌}
 use Rattle.std.specs.List.{list_any, position_or_len}
 use Rattle.std.specs.Cmp.Lexicographic.{pointwise, nat_list_eq_equiv}
-use Rattle.stream_types.proofs.Lists.{get_push}
+use Rattle.stream_types.proofs.GrownLists.{get_push}
 use Rattle.stream_core.specs.Term.{TreeSpec, TreeTrigger}
 use Rattle.stream_core.specs.Handlers.{handlers_after, handlers, trigger_name, handler_of}
-use Rattle.stream_core.proofs.Kept.{none_passes}
+use Rattle.stream_core.proofs.NodesOnce.{none_passes}
 use Rattle.stream_core.proofs.SameNode.{list_same}
+use Rattle.sm_io.proofs.Truths.{or_passes}
 
 -- a name that is written so
 abbrev is_name : List ℕ → List ℕ → Bool
@@ -55,11 +56,7 @@ front_any p (x ∷ xs) ys h = by (λ h. front_any p xs ys h) (p x) h
 
 last_any : (p : List ℕ → Bool) (xs : List (List ℕ)) (y : List ℕ) → p y ≡ true → list_any p (xs ++ y ∷ []) ≡ true
 last_any p [] y h = ap (λ b. b || false) h
-last_any p (x ∷ xs) y h = or_true (p x) (list_any p (xs ++ y ∷ [])) (last_any p xs y h)
-  where
-    or_true : (a b : Bool) → b ≡ true → (a || b) ≡ true
-    or_true true b h = refl
-    or_true false b h = h
+last_any p (x ∷ xs) y h = or_passes (p x) (list_any p (xs ++ y ∷ [])) (last_any p xs y h)
 
 with_any : (p : List ℕ → Bool) (seen : List (List ℕ)) (name : List ℕ) → list_any p seen ≡ true → list_any p (with_name seen name) ≡ true
 with_any p seen name h = by (list_any (is_name name) seen)
@@ -103,3 +100,29 @@ pub handler_named : (s : TreeSpec) (i : ℕ) (x : TreeTrigger) → slice_get s.t
 handler_named s i x e =
     let p = first_passes (is_name x.name) (handlers s) (each_any [] s.triggers i x e) in
     ap (λ o. slice_get (handlers s) (position_or_len (is_name (trigger_name o)) (handlers s))) e ∙ p.1 ∙ ap Some (sym (list_same x.name p.0 p.2))
+
+-- ---- each a trigger's
+
+-- a trigger of this name
+pub record IsTriggerOf (xs : List TreeTrigger) (name : List ℕ) : Type 0 where
+  pub place : ℕ
+  pub item : TreeTrigger
+  pub is : slice_get xs place ≡ Some item
+  pub named : item.name ≡ name
+
+seen_or_named : (seen : List (List ℕ)) (xs : List TreeTrigger) (i : ℕ) (name : List ℕ) → slice_get (handlers_after seen xs) i ≡ Some name
+    → ((j : ℕ) × (slice_get seen j ≡ Some name)) ⊎ IsTriggerOf xs name
+seen_or_named seen [] i name e = inl (i, e)
+seen_or_named seen (x ∷ xs) i name e =
+    ⊎_elim
+    (λ old. by (list_any (is_name x.name) seen) old.0 old.1)
+    (λ (y : IsTriggerOf xs name). inr (record { place = suc y.place; item = y.item; is = y.is; named = y.named }))
+    (seen_or_named (with_name seen x.name) xs i name e)
+  where
+    by : (b : Bool) (j : ℕ) → slice_get (if b then seen else seen ++ x.name ∷ []) j ≡ Some name → ((k : ℕ) × (slice_get seen k ≡ Some name)) ⊎ IsTriggerOf (x ∷ xs) name
+    by true j f = inl (j, f)
+    by false j f = ⊎_elim (λ front. inl (j, front.1)) (λ last. inr (record { place = 0; item = x; is = refl; named = last.1 })) (get_push seen x.name name j f)
+
+-- each handler is some trigger's name
+pub handler_from : (s : TreeSpec) (i : ℕ) (name : List ℕ) → slice_get (handlers s) i ≡ Some name → IsTriggerOf s.triggers name
+handler_from s i name e = ⊎_elim (λ old. absurd (cc)) (λ (y : IsTriggerOf s.triggers name). y) (seen_or_named [] s.triggers i name e)

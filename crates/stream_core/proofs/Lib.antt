@@ -1,9 +1,9 @@
-pub mod Rows
+pub mod WorkedSteps
 pub mod Trees
 pub mod Defs
 pub mod Closed
 pub mod Values
-pub mod Steps
+pub mod CleanSteps
 pub mod Unique
 pub mod Tables
 pub mod LibraryFacts
@@ -11,11 +11,11 @@ pub mod SameNode
 pub mod Bounded
 pub mod Recent
 pub mod Grown
-pub mod Kept
+pub mod NodesOnce
 pub mod Handled
 pub mod Windows
-pub mod Typing
-pub mod Rings
+pub mod OneType
+pub mod Cycles
 pub mod Premises
 pub mod SharedNodes
 pub mod FormWeights
@@ -26,6 +26,6 @@ pub mod Ranked
 pub mod Mentioned
 pub mod Roots
 pub mod Wide
-pub mod Reading
+pub mod Reach
 pub mod GoodNodes
 pub mod WholeWeight

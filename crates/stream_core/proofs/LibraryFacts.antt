@@ -7,6 +7,8 @@ use Rattle.stream_core.specs.declared.node.LibForm.TheVariants as form
 use Rattle.stream_core.specs.Library.{some_below, each_below, once, since, bind, bool_word, is_true_word, form_value}
 use Rattle.stream_core.specs.Term.{Term, or, stream, lib, end, more}
 use Rattle.stream_core.specs.Eval.{Moment, Value, value, on_test, one, entry_at, first_word, operand_word}
+use Rattle.std.proofs.Math.Bool.{and-true}
+use Rattle.sm_io.proofs.Truths.{or_spreads}
 
 -- ---- sentences
 
@@ -29,28 +31,14 @@ each_true zero p h = refl
 each_true (suc n) p h = let a = each_true n p (λ j b. h j (omega arith)) in let b = h n (omega arith) in cc
 
 -- a test that does not depend on the number goes out
-and_out : (x y b : Bool) → ((x && b) || (y && b)) ≡ ((x || y) && b)
-and_out true true true = refl
-and_out true true false = refl
-and_out true false true = refl
-and_out true false false = refl
-and_out false true true = refl
-and_out false true false = refl
-and_out false false true = refl
-and_out false false false = refl
-
 some_and : (n : ℕ) (p : ℕ → Bool) (b : Bool) → some_below n (λ j. p j && b) ≡ (some_below n p && b)
 some_and zero p true = refl
 some_and zero p false = refl
-some_and (suc n) p b = ap (λ x. x || (p n && b)) (some_and n p b) ∙ and_out (some_below n p) (p n) b
+some_and (suc n) p b = ap (λ x. x || (p n && b)) (some_and n p b) ∙ or_spreads (some_below n p) (p n) b
 
 and_assoc' : (x y z : Bool) → (x && (y && z)) ≡ ((x && y) && z)
 and_assoc' true y z = refl
 and_assoc' false y z = refl
-
-and_true : (x : Bool) → (x && true) ≡ x
-and_true true = refl
-and_true false = refl
 
 later_false : (j t : ℕ) → j < t → nat_le t j ≡ false
 later_false j t h = grind (arith, nat_tests, h)
@@ -68,7 +56,7 @@ sentence_next p q t =
     some_same t (λ j. q j && each_below (suc t) (λ i. nat_le i j || p i)) (λ j. (q j && each_below t (λ i. nat_le i j || p i)) && p t) (λ j b. and_assoc' (q j) (each_below t (λ i. nat_le i j || p i)) (nat_le t j || p t) ∙ ap (λ x. (q j && each_below t (λ i. nat_le i j || p i)) && (x || p t)) (later_false j t b))
     ∙ some_and t (λ j. q j && each_below t (λ i. nat_le i j || p i)) (p t) in
     let last : (q t && each_below (suc t) (λ i. nat_le i t || p i)) ≡ q t =
-    ap (λ x. q t && x) (each_true (suc t) (λ i. nat_le i t || p i) (λ i b. below_true i t (p i) b)) ∙ and_true (q t) in
+    ap (λ x. q t && x) (each_true (suc t) (λ i. nat_le i t || p i) (λ i b. below_true i t (p i) b)) ∙ and-true (q t) in
     cc
 
 since_now : (p q : ℕ → Bool) (t : ℕ) → since p q t ≡ ((sentence p q t && p t) || q t)

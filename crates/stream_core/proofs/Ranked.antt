@@ -1,4 +1,4 @@
--- Without a ring of defs there are ranks: the longest way from a def along mentions is shorter than the list.
+-- Without a cycle of defs there are ranks: the longest way from a def along mentions is shorter than the list.
 use Rattle.std.proofs.Common.{◌≡◌, ◌≢◌, ◌⊎◌, inl, inr, ⊎_elim, ℕ, zero, suc, ◌<◌, ◌≤◌, max, List, [], ◌∷◌, length, Option, Some, None, refl, sym, ap, ◌∙◌, subst, arith, if◌then◌else◌, nat_eq, true, false}
 use Rattle.std.specs.Prelude.{slice_get, Contains}
 use Rattle.std.specs.List.{AllByRecursion}
@@ -8,7 +8,7 @@ use Rattle.std.proofs.lemmas.Option.{slice_get_within}
 use Rattle.stream_core.specs.Term.{TreeDef}
 use Rattle.stream_core.specs.Limits.{Mentions, Leads, mentions}
 use Rattle.stream_core.specs.Acyclic.{Acyclic}
-use Rattle.stream_core.specs.Soundness.{HasNoRing}
+use Rattle.stream_core.specs.Soundness.{HasNoCycle}
 use Rattle.stream_core.proofs.Trees.{all_map}
 
 -- ---- lists of numbers as sets
@@ -104,7 +104,7 @@ steady : (defs : List TreeDef) (n d : ℕ) → deep defs n d < n → deep defs (
 steady defs zero d h = absurd (omega (arith, h))
 steady defs (suc n) d h = steady_at (deep defs n) (deep defs (suc n)) n (λ c below. steady defs n c below) (slice_get defs d) h
 
-module _ (defs : List TreeDef) (none : HasNoRing defs) where
+module _ (defs : List TreeDef) (none : HasNoCycle defs) where
   step : (n d : ℕ) (xs : List ℕ) → In d xs → ((e m : ℕ) → Leads defs m d e → In e xs) → ((c : ℕ) (ys : List ℕ) → In c ys → ((e m : ℕ) → Leads defs m c e → In e ys) → deep defs n c < length ys) → (o : Option TreeDef) → slice_get defs d ≡ o → deep_at (deep defs n) o < length xs
   step n d xs here all rec None e = nonempty d xs here
   step n d xs here all rec (Some x) e =

@@ -1,4 +1,4 @@
--- The roots of a well typed specification are its nodes, and without a ring its trees are there.
+-- The roots of a well typed specification are its nodes, and without a cycle its trees are there.
 use Rattle.std.proofs.Common.{◌≡◌, ℕ, ◌<◌, List, length, map, get_or, Some, ap, ◌∙◌, subst}
 use Rattle.std.specs.Prelude.{slice_get, All}
 use Rattle.std.specs.Option.{option_map}
@@ -10,10 +10,10 @@ use Rattle.stream_core.specs.Value.{SpecValue}
 use Rattle.stream_core.specs.Term.{TreeStream, TreeTrigger, TreeObserver, tree, trees, tree_root, defs_of}
 use Rattle.stream_core.specs.Limits.{Mentions, mentions}
 use Rattle.stream_core.specs.Acyclic.{Acyclic, WellFounded}
-use Rattle.stream_core.specs.Soundness.{HasNoRing}
+use Rattle.stream_core.specs.Soundness.{HasNoCycle}
 use Rattle.stream_core.specs.WellTyped.{IsGoodStream, IsGoodDef, IsGoodTrigger, RootHasType, WellTyped}
 use Rattle.stream_core.specs.Weights.{IsTriggerThere, IsGoodItem}
-use Rattle.stream_core.proofs.Rings.{node_there, each_in, well_founded}
+use Rattle.stream_core.proofs.Cycles.{node_there, each_in, well_founded}
 use Rattle.stream_core.proofs.GoodNodes.{good_item}
 use Rattle.stream_core.proofs.Mentioned.{mentioned}
 use Rattle.stream_core.proofs.Ranked.{ranked}
@@ -55,8 +55,8 @@ module _ (s : SpecValue) (w : WellTyped s) where
       let good : IsGoodDef (trees s) m.from = subst (IsGoodDef (trees s)) (get_or_from_slice_get (trees s).defs a m.from m.from m.is) (w.defs a m.from b_in) in
       each_in (λ d. d < length (trees s).defs) (mentions m.from.expr) b (mentioned (trees s) m.from.expr m.from.ty good.expr) m.to
 
-  pub acyclic : HasNoRing (defs_of s) → Acyclic (defs_of s)
+  pub acyclic : HasNoCycle (defs_of s) → Acyclic (defs_of s)
   acyclic none = ranked (defs_of s) none mentions_there
 
-  pub founded : HasNoRing (defs_of s) → WellFounded s
+  pub founded : HasNoCycle (defs_of s) → WellFounded s
   founded none = well_founded s w (acyclic none)

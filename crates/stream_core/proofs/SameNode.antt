@@ -22,26 +22,17 @@ use Rattle.stream_types.specs.contracts.scalar.Op1.{the_type as op1_type}
 use Rattle.stream_types.specs.contracts.scalar.Op2.{the_type as op2_type}
 use Rattle.stream_types.specs.contracts.scalar.Dir.{the_type as dir_type}
 use denote.Enum.Bare.{same_true}
+use Rattle.sm_io.proofs.Truths.{both_say}
 
 nat_same : (x y : ℕ) → nat_eq x y ≡ true → x ≡ y
 nat_same x y h = grind (arith, nat_tests, h)
-
-left_true : (a b : Bool) → (a && b) ≡ true → a ≡ true
-left_true true b h = refl
-left_true false b h = absurd (cc)
-
-right_true : (a b : Bool) → (a && b) ≡ true → b ≡ true
-right_true true b h = h
-right_true false b h = absurd (cc)
 
 pub list_same : (xs ys : List ℕ) → pointwise nat_eq xs ys ≡ true → xs ≡ ys
 list_same [] [] h = refl
 list_same [] (y ∷ ys) h = absurd (cc)
 list_same (x ∷ xs) [] h = absurd (cc)
 list_same (x ∷ xs) (y ∷ ys) h =
-    let p = nat_same x y (left_true (nat_eq x y) (pointwise nat_eq xs ys) h) in
-    let q = list_same xs ys (right_true (nat_eq x y) (pointwise nat_eq xs ys) h) in
-    cc
+    let p = both_say _ _ (nat_same x y) (list_same xs ys) h in let p0 = p.0 in let p1 = p.1 in cc
 
 scalar_same : (a b : Scalar) → scalar_eq.eq a b ≡ true → a ≡ b
 scalar_same a b h = same_true scalar_type (search rules) a b h
@@ -66,89 +57,43 @@ no h = cc
 
 pub same : (a b : Node) → ghosts.eq a b ≡ true → a ≡ b
 same (node.Lit a0 a1) (node.Lit b0 b1) h =
-    let p0 = scalar_same a0 b0 (left_true (scalar_eq.eq a0 b0) (nat_eq a1 b1) h) in
-    let p1 = nat_same a1 b1 (right_true (scalar_eq.eq a0 b0) (nat_eq a1 b1) h) in
-    cc
+    let p = both_say _ _ (scalar_same a0 b0) (nat_same a1 b1) h in let p0 = p.0 in let p1 = p.1 in cc
 same (node.Extern a0) (node.Extern b0) h = ap node.Extern (nat_same a0 b0 h)
 same (node.Stream a0) (node.Stream b0) h = ap node.Stream (nat_same a0 b0 h)
 same (node.Def a0) (node.Def b0) h = ap node.Def (nat_same a0 b0 h)
 same (node.Drop a0 a1) (node.Drop b0 b1) h =
-    let p0 = nat_same a0 b0 (left_true (nat_eq a0 b0) (nat_eq a1 b1) h) in
-    let p1 = nat_same a1 b1 (right_true (nat_eq a0 b0) (nat_eq a1 b1) h) in
-    cc
+    let p = both_say _ _ (nat_same a0 b0) (nat_same a1 b1) h in let p0 = p.0 in let p1 = p.1 in cc
 same (node.Un a0 a1 a2) (node.Un b0 b1 b2) h =
-    let p0 = op1_same a0 b0 (left_true (op1_eq.eq a0 b0) ((scalar_eq.eq a1 b1) && (nat_eq a2 b2)) h) in
-    let p1 = scalar_same a1 b1 (left_true (scalar_eq.eq a1 b1) (nat_eq a2 b2) (right_true (op1_eq.eq a0 b0) ((scalar_eq.eq a1 b1) && (nat_eq a2 b2)) h)) in
-    let p2 = nat_same a2 b2 (right_true (scalar_eq.eq a1 b1) (nat_eq a2 b2) (right_true (op1_eq.eq a0 b0) ((scalar_eq.eq a1 b1) && (nat_eq a2 b2)) h)) in
-    cc
+    let p = both_say _ _ (op1_same a0 b0) (both_say _ _ (scalar_same a1 b1) (nat_same a2 b2)) h in let p0 = p.0 in let p1 = p.1.0 in let p2 = p.1.1 in cc
 same (node.Bin a0 a1 a2 a3) (node.Bin b0 b1 b2 b3) h =
-    let p0 = op2_same a0 b0 (left_true (op2_eq.eq a0 b0) ((scalar_eq.eq a1 b1) && ((nat_eq a2 b2) && (nat_eq a3 b3))) h) in
-    let p1 = scalar_same a1 b1 (left_true (scalar_eq.eq a1 b1) ((nat_eq a2 b2) && (nat_eq a3 b3)) (right_true (op2_eq.eq a0 b0) ((scalar_eq.eq a1 b1) && ((nat_eq a2 b2) && (nat_eq a3 b3))) h)) in
-    let p2 = nat_same a2 b2 (left_true (nat_eq a2 b2) (nat_eq a3 b3) (right_true (scalar_eq.eq a1 b1) ((nat_eq a2 b2) && (nat_eq a3 b3)) (right_true (op2_eq.eq a0 b0) ((scalar_eq.eq a1 b1) && ((nat_eq a2 b2) && (nat_eq a3 b3))) h))) in
-    let p3 = nat_same a3 b3 (right_true (nat_eq a2 b2) (nat_eq a3 b3) (right_true (scalar_eq.eq a1 b1) ((nat_eq a2 b2) && (nat_eq a3 b3)) (right_true (op2_eq.eq a0 b0) ((scalar_eq.eq a1 b1) && ((nat_eq a2 b2) && (nat_eq a3 b3))) h))) in
-    cc
+    let p = both_say _ _ (op2_same a0 b0) (both_say _ _ (scalar_same a1 b1) (both_say _ _ (nat_same a2 b2) (nat_same a3 b3))) h in let p0 = p.0 in let p1 = p.1.0 in let p2 = p.1.1.0 in let p3 = p.1.1.1 in cc
 same (node.Shift a0 a1 a2 a3 a4) (node.Shift b0 b1 b2 b3 b4) h =
-    let p0 = dir_same a0 b0 (left_true (dir_eq.eq a0 b0) ((scalar_eq.eq a1 b1) && ((nat_eq a2 b2) && ((scalar_eq.eq a3 b3) && (nat_eq a4 b4)))) h) in
-    let p1 = scalar_same a1 b1 (left_true (scalar_eq.eq a1 b1) ((nat_eq a2 b2) && ((scalar_eq.eq a3 b3) && (nat_eq a4 b4))) (right_true (dir_eq.eq a0 b0) ((scalar_eq.eq a1 b1) && ((nat_eq a2 b2) && ((scalar_eq.eq a3 b3) && (nat_eq a4 b4)))) h)) in
-    let p2 = nat_same a2 b2 (left_true (nat_eq a2 b2) ((scalar_eq.eq a3 b3) && (nat_eq a4 b4)) (right_true (scalar_eq.eq a1 b1) ((nat_eq a2 b2) && ((scalar_eq.eq a3 b3) && (nat_eq a4 b4))) (right_true (dir_eq.eq a0 b0) ((scalar_eq.eq a1 b1) && ((nat_eq a2 b2) && ((scalar_eq.eq a3 b3) && (nat_eq a4 b4)))) h))) in
-    let p3 = scalar_same a3 b3 (left_true (scalar_eq.eq a3 b3) (nat_eq a4 b4) (right_true (nat_eq a2 b2) ((scalar_eq.eq a3 b3) && (nat_eq a4 b4)) (right_true (scalar_eq.eq a1 b1) ((nat_eq a2 b2) && ((scalar_eq.eq a3 b3) && (nat_eq a4 b4))) (right_true (dir_eq.eq a0 b0) ((scalar_eq.eq a1 b1) && ((nat_eq a2 b2) && ((scalar_eq.eq a3 b3) && (nat_eq a4 b4)))) h)))) in
-    let p4 = nat_same a4 b4 (right_true (scalar_eq.eq a3 b3) (nat_eq a4 b4) (right_true (nat_eq a2 b2) ((scalar_eq.eq a3 b3) && (nat_eq a4 b4)) (right_true (scalar_eq.eq a1 b1) ((nat_eq a2 b2) && ((scalar_eq.eq a3 b3) && (nat_eq a4 b4))) (right_true (dir_eq.eq a0 b0) ((scalar_eq.eq a1 b1) && ((nat_eq a2 b2) && ((scalar_eq.eq a3 b3) && (nat_eq a4 b4)))) h)))) in
-    cc
+    let p = both_say _ _ (dir_same a0 b0) (both_say _ _ (scalar_same a1 b1) (both_say _ _ (nat_same a2 b2) (both_say _ _ (scalar_same a3 b3) (nat_same a4 b4)))) h in let p0 = p.0 in let p1 = p.1.0 in let p2 = p.1.1.0 in let p3 = p.1.1.1.0 in let p4 = p.1.1.1.1 in cc
 same (node.Cast a0 a1 a2) (node.Cast b0 b1 b2) h =
-    let p0 = scalar_same a0 b0 (left_true (scalar_eq.eq a0 b0) ((scalar_eq.eq a1 b1) && (nat_eq a2 b2)) h) in
-    let p1 = scalar_same a1 b1 (left_true (scalar_eq.eq a1 b1) (nat_eq a2 b2) (right_true (scalar_eq.eq a0 b0) ((scalar_eq.eq a1 b1) && (nat_eq a2 b2)) h)) in
-    let p2 = nat_same a2 b2 (right_true (scalar_eq.eq a1 b1) (nat_eq a2 b2) (right_true (scalar_eq.eq a0 b0) ((scalar_eq.eq a1 b1) && (nat_eq a2 b2)) h)) in
-    cc
+    let p = both_say _ _ (scalar_same a0 b0) (both_say _ _ (scalar_same a1 b1) (nat_same a2 b2)) h in let p0 = p.0 in let p1 = p.1.0 in let p2 = p.1.1 in cc
 same (node.And a0 a1) (node.And b0 b1) h =
-    let p0 = nat_same a0 b0 (left_true (nat_eq a0 b0) (nat_eq a1 b1) h) in
-    let p1 = nat_same a1 b1 (right_true (nat_eq a0 b0) (nat_eq a1 b1) h) in
-    cc
+    let p = both_say _ _ (nat_same a0 b0) (nat_same a1 b1) h in let p0 = p.0 in let p1 = p.1 in cc
 same (node.Or a0 a1) (node.Or b0 b1) h =
-    let p0 = nat_same a0 b0 (left_true (nat_eq a0 b0) (nat_eq a1 b1) h) in
-    let p1 = nat_same a1 b1 (right_true (nat_eq a0 b0) (nat_eq a1 b1) h) in
-    cc
+    let p = both_say _ _ (nat_same a0 b0) (nat_same a1 b1) h in let p0 = p.0 in let p1 = p.1 in cc
 same (node.Implies a0 a1) (node.Implies b0 b1) h =
-    let p0 = nat_same a0 b0 (left_true (nat_eq a0 b0) (nat_eq a1 b1) h) in
-    let p1 = nat_same a1 b1 (right_true (nat_eq a0 b0) (nat_eq a1 b1) h) in
-    cc
+    let p = both_say _ _ (nat_same a0 b0) (nat_same a1 b1) h in let p0 = p.0 in let p1 = p.1 in cc
 same (node.If a0 a1 a2) (node.If b0 b1 b2) h =
-    let p0 = nat_same a0 b0 (left_true (nat_eq a0 b0) ((nat_eq a1 b1) && (nat_eq a2 b2)) h) in
-    let p1 = nat_same a1 b1 (left_true (nat_eq a1 b1) (nat_eq a2 b2) (right_true (nat_eq a0 b0) ((nat_eq a1 b1) && (nat_eq a2 b2)) h)) in
-    let p2 = nat_same a2 b2 (right_true (nat_eq a1 b1) (nat_eq a2 b2) (right_true (nat_eq a0 b0) ((nat_eq a1 b1) && (nat_eq a2 b2)) h)) in
-    cc
+    let p = both_say _ _ (nat_same a0 b0) (both_say _ _ (nat_same a1 b1) (nat_same a2 b2)) h in let p0 = p.0 in let p1 = p.1.0 in let p2 = p.1.1 in cc
 same (node.Index a0 a1 a2) (node.Index b0 b1 b2) h =
-    let p0 = ty_same a0 b0 (left_true (ty_eq.eq a0 b0) ((nat_eq a1 b1) && (nat_eq a2 b2)) h) in
-    let p1 = nat_same a1 b1 (left_true (nat_eq a1 b1) (nat_eq a2 b2) (right_true (ty_eq.eq a0 b0) ((nat_eq a1 b1) && (nat_eq a2 b2)) h)) in
-    let p2 = nat_same a2 b2 (right_true (nat_eq a1 b1) (nat_eq a2 b2) (right_true (ty_eq.eq a0 b0) ((nat_eq a1 b1) && (nat_eq a2 b2)) h)) in
-    cc
+    let p = both_say _ _ (ty_same a0 b0) (both_say _ _ (nat_same a1 b1) (nat_same a2 b2)) h in let p0 = p.0 in let p1 = p.1.0 in let p2 = p.1.1 in cc
 same (node.Field a0 a1 a2) (node.Field b0 b1 b2) h =
-    let p0 = ty_same a0 b0 (left_true (ty_eq.eq a0 b0) ((nat_eq a1 b1) && (nat_eq a2 b2)) h) in
-    let p1 = nat_same a1 b1 (left_true (nat_eq a1 b1) (nat_eq a2 b2) (right_true (ty_eq.eq a0 b0) ((nat_eq a1 b1) && (nat_eq a2 b2)) h)) in
-    let p2 = nat_same a2 b2 (right_true (nat_eq a1 b1) (nat_eq a2 b2) (right_true (ty_eq.eq a0 b0) ((nat_eq a1 b1) && (nat_eq a2 b2)) h)) in
-    cc
+    let p = both_say _ _ (ty_same a0 b0) (both_say _ _ (nat_same a1 b1) (nat_same a2 b2)) h in let p0 = p.0 in let p1 = p.1.0 in let p2 = p.1.1 in cc
 same (node.Array a0 a1) (node.Array b0 b1) h =
-    let p0 = ty_same a0 b0 (left_true (ty_eq.eq a0 b0) (pointwise nat_eq a1 b1) h) in
-    let p1 = list_same a1 b1 (right_true (ty_eq.eq a0 b0) (pointwise nat_eq a1 b1) h) in
-    cc
+    let p = both_say _ _ (ty_same a0 b0) (list_same a1 b1) h in let p0 = p.0 in let p1 = p.1 in cc
 same (node.Record a0 a1) (node.Record b0 b1) h =
-    let p0 = ty_same a0 b0 (left_true (ty_eq.eq a0 b0) (pointwise nat_eq a1 b1) h) in
-    let p1 = list_same a1 b1 (right_true (ty_eq.eq a0 b0) (pointwise nat_eq a1 b1) h) in
-    cc
+    let p = both_say _ _ (ty_same a0 b0) (list_same a1 b1) h in let p0 = p.0 in let p1 = p.1 in cc
 same (node.Abs a0 a1) (node.Abs b0 b1) h =
-    let p0 = scalar_same a0 b0 (left_true (scalar_eq.eq a0 b0) (nat_eq a1 b1) h) in
-    let p1 = nat_same a1 b1 (right_true (scalar_eq.eq a0 b0) (nat_eq a1 b1) h) in
-    cc
+    let p = both_say _ _ (scalar_same a0 b0) (nat_same a1 b1) h in let p0 = p.0 in let p1 = p.1 in cc
 same (node.Sign a0 a1) (node.Sign b0 b1) h =
-    let p0 = scalar_same a0 b0 (left_true (scalar_eq.eq a0 b0) (nat_eq a1 b1) h) in
-    let p1 = nat_same a1 b1 (right_true (scalar_eq.eq a0 b0) (nat_eq a1 b1) h) in
-    cc
+    let p = both_say _ _ (scalar_same a0 b0) (nat_same a1 b1) h in let p0 = p.0 in let p1 = p.1 in cc
 same (node.Majority a0 a1) (node.Majority b0 b1) h =
-    let p0 = scalar_same a0 b0 (left_true (scalar_eq.eq a0 b0) (pointwise nat_eq a1 b1) h) in
-    let p1 = list_same a1 b1 (right_true (scalar_eq.eq a0 b0) (pointwise nat_eq a1 b1) h) in
-    cc
+    let p = both_say _ _ (scalar_same a0 b0) (list_same a1 b1) h in let p0 = p.0 in let p1 = p.1 in cc
 same (node.Agreed a0 a1) (node.Agreed b0 b1) h =
-    let p0 = scalar_same a0 b0 (left_true (scalar_eq.eq a0 b0) (pointwise nat_eq a1 b1) h) in
-    let p1 = list_same a1 b1 (right_true (scalar_eq.eq a0 b0) (pointwise nat_eq a1 b1) h) in
-    cc
+    let p = both_say _ _ (scalar_same a0 b0) (list_same a1 b1) h in let p0 = p.0 in let p1 = p.1 in cc
 same (node.Lib a0) (node.Lib b0) h = ap node.Lib (nat_same a0 b0 h)
 same _ _ h = absurd (no h)

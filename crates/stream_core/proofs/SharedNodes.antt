@@ -1,4 +1,4 @@
--- (extern x Word8) (trigger t true (+ x x) (+ x x)), made call by call, is well typed and has no ring.
+-- (extern x Word8) (trigger t true (+ x x) (+ x x)), made call by call, is well typed and has no cycle.
 use Rattle.std.proofs.Common.{◌≡◌, ⊎_elim, ℕ, zero, suc, ◌<◌, List, [], ◌∷◌, Some, refl, ap, ◌∙◌, subst, arith}
 use Rattle.std.specs.Prelude.{slice_get}
 use Rattle.std.specs.List.{AllByRecursion}
@@ -20,7 +20,7 @@ use Rattle.stream_core.specs.Ordered.{Ordered, all_parts}
 use Rattle.stream_core.specs.Stored.{IsPlaced, with_item}
 use Rattle.stream_core.specs.Term.{TreeRoot, tree, trees, tree_root, defs_of}
 use Rattle.stream_core.specs.Limits.{Leads}
-use Rattle.stream_core.specs.Soundness.{HasNoRing}
+use Rattle.stream_core.specs.Soundness.{HasNoCycle}
 use Rattle.stream_core.specs.WellTyped.{bool, HasType, HasGoodNames, IsName, IsGoodTrigger, RootHasType, WellTyped, declared_names, argument_types}
 use Rattle.stream_core.proofs.Premises.{one, two, no_types, first_byte, name_byte}
 
@@ -133,8 +133,8 @@ no_way : (n a b : ℕ) → Leads [] n a b → ⊥
 no_way zero a b l = let e = l.is in absurd (cc)
 no_way (suc n) a b l = let e = l.1.is in absurd (cc)
 
-pub no_ring : HasNoRing (defs_of shared)
-no_ring d ring = no_way ring.0 d d ring.1
+pub no_cycle : HasNoCycle (defs_of shared)
+no_cycle d way = no_way way.0 d d way.1
 
 -- ---- how it is made
 

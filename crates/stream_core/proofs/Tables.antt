@@ -9,7 +9,7 @@ use Rattle.stream_types.specs.declared.scalar.Hazard.{Hazard}
 use Rattle.stream_core.specs.Term.{TreeSpec}
 use Rattle.stream_core.specs.Library.{bind}
 use Rattle.stream_core.specs.Eval.{Table, Line, lines, Value, Event, StepValues, entry_at, value, values, moment, step_at, fired, observed, extend, grown, next_table, table_after, step_events, events_of}
-use Rattle.stream_core.specs.Equations.{Reads, bound_of, LineMeets, AllMeet, Meets, Bounded, IsFront}
+use Rattle.stream_core.specs.Equations.{ReadsWithin, bound_of, LineMeets, AllMeet, Meets, Bounded, IsFront}
 use Rattle.stream_core.proofs.Values.{value_same}
 
 -- what an Ok holds
@@ -47,10 +47,10 @@ module _ (s : TreeSpec) (h : List (List ℕ)) (n : ℕ) (T : Table) where
   agree_more (l ∷ ls) (xs ∷ xss) (y ∷ ys) all (suc k) i b = agree_more ls xss ys all.1 k i b
 
   module _ (X : Table) (bound : ℕ → ℕ) (agree : (k i : ℕ) → i < bound k + n → entry_at T k i ≡ entry_at X k i) where
-    value_at : (l : Line) → Reads bound l.expr → (t : ℕ) → t ≤ n → value (moment s X h t) l.expr ≡ value (moment s T h t) l.expr
+    value_at : (l : Line) → ReadsWithin bound l.expr → (t : ℕ) → t ≤ n → value (moment s X h t) l.expr ≡ value (moment s T h t) l.expr
     value_at l reads t le = sym (value_same (moment s T h t) T X bound (λ k i b. agree k i (omega (arith, b, le))) l.expr reads)
 
-    line_more : (l : Line) (xs : List (List ℕ)) (z : List ℕ) → LineMeets s h n T l xs → Reads bound l.expr → value (moment s T h n) l.expr ≡ Ok z → LineMeets s h (suc n) X l (xs ++ z ∷ [])
+    line_more : (l : Line) (xs : List (List ℕ)) (z : List ℕ) → LineMeets s h n T l xs → ReadsWithin bound l.expr → value (moment s T h n) l.expr ≡ Ok z → LineMeets s h (suc n) X l (xs ++ z ∷ [])
     line_more l xs z meets reads is = record {
       count = let a = length-append xs (z ∷ []) in omega (arith, a, meets.count);
       start = take-append-le (length l.init) xs (z ∷ []) (omega (arith, meets.count)) ∙ meets.start;
@@ -63,7 +63,7 @@ module _ (s : TreeSpec) (h : List (List ℕ)) (n : ℕ) (T : Table) where
           (cases_lt t n);
     }
 
-    all_more : (ls : List Line) (xss : Table) (ns : List (List ℕ)) → AllMeet s h n T ls xss → AllByRecursion (λ (l : Line). Reads bound l.expr) ls → values (moment s T h n) (map (λ (x : Line). x.expr) ls) ≡ Ok ns → AllMeet s h (suc n) X ls (extend xss ns)
+    all_more : (ls : List Line) (xss : Table) (ns : List (List ℕ)) → AllMeet s h n T ls xss → AllByRecursion (λ (l : Line). ReadsWithin bound l.expr) ls → values (moment s T h n) (map (λ (x : Line). x.expr) ls) ≡ Ok ns → AllMeet s h (suc n) X ls (extend xss ns)
     all_more [] [] ns all reads e = tt
     all_more [] (xs ∷ xss) ns all reads e = absurd all
     all_more (l ∷ ls) [] ns all reads e = absurd all

@@ -8,9 +8,9 @@ use Rattle.stream_types.specs.declared.scalar.Hazard.{Hazard}
 use Rattle.stream_core.specs.Term.{TreeSpec}
 use Rattle.stream_core.specs.Eval.{Moment, Table, Line, lines, entry_at, values, moment, step_at, fired, observed, extend, grown, next_table, table_after, Clean, Event}
 use Rattle.stream_core.specs.Library.{bind}
-use Rattle.stream_core.specs.Equations.{Reads, bound_of, AllMeet, Meets, Bounded}
+use Rattle.stream_core.specs.Equations.{ReadsWithin, bound_of, AllMeet, Meets, Bounded}
 use Rattle.stream_core.proofs.Values.{value_same}
-use Rattle.stream_core.proofs.Steps.{table_ok}
+use Rattle.stream_core.proofs.CleanSteps.{table_ok}
 
 -- the table's lists up to step t
 abbrev cut : ℕ → List Line → Table → Table
@@ -64,7 +64,7 @@ module _ (s : TreeSpec) (h : List (List ℕ)) (n : ℕ) (X : Table) where
       cc
 
   module _ (t : ℕ) (before : t < n) (T : Table) (bound : ℕ → ℕ) (agree : (k i : ℕ) → i < bound k + t → entry_at T k i ≡ entry_at X k i) where
-    values_are : (ls : List Line) (xss : Table) → AllMeet s h n X ls xss → AllByRecursion (λ (l : Line). Reads bound l.expr) ls → values (moment s T h t) (map (λ (x : Line). x.expr) ls) ≡ Ok (entries t ls xss)
+    values_are : (ls : List Line) (xss : Table) → AllMeet s h n X ls xss → AllByRecursion (λ (l : Line). ReadsWithin bound l.expr) ls → values (moment s T h t) (map (λ (x : Line). x.expr) ls) ≡ Ok (entries t ls xss)
     values_are [] [] all reads = refl
     values_are [] (xs ∷ xss) all reads = absurd all
     values_are (l ∷ ls) [] all reads = absurd all

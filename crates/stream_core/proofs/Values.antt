@@ -9,7 +9,7 @@ use Rattle.stream_types.specs.declared.scalar.Hazard.{Hazard}
 use Rattle.stream_types.specs.declared.types.TypeEntry.{TypeEntry}
 use Rattle.stream_core.specs.declared.node.LibForm.{LibForm}
 use Rattle.stream_core.specs.Library.{bind, form_value}
-use Rattle.stream_core.specs.Equations.{Reads, AllRead}
+use Rattle.stream_core.specs.Equations.{ReadsWithin, AllRead}
 
 pointwise : {A B : Type 0} (f g : A → B) → ((x : A) → f x ≡ g x) → f ≡ g
 pointwise f g h = λ i x. h x i
@@ -40,7 +40,7 @@ module _ (m : Moment) (T X : Table) (bound : ℕ → ℕ) (agree : (k i : ℕ) �
       ∙ ap (λ (f : List ℕ → ℕ → ℕ → ℕ). bind (all_values (record m { table = X }) es) (λ now. one (form_value form m.time (f now)))) (pointwise _ _ (words_same k))
 
   mutual
-    pub value_same : (e : Term) → Reads bound e → value (record m { table = T }) e ≡ value (record m { table = X }) e
+    pub value_same : (e : Term) → ReadsWithin bound e → value (record m { table = T }) e ≡ value (record m { table = X }) e
     value_same (lit s w) h = refl
     value_same (extern x) h = refl
     value_same (def d) h = refl

@@ -10,7 +10,7 @@ use Rattle.stream_types.specs.declared.types.TypeEntry.{TypeEntry}
 use Rattle.stream_types.specs.declared.types.TypeEntry.TheVariants as entry
 use Rattle.stream_types.specs.Types.{one_word, entry_words, words, at_type, leaves, repeated}
 use Rattle.stream_types.specs.TypeList.{IsArrayEntry, IsStructEntry, Stands, IsGoodEntry, IsTypeList}
-use Rattle.stream_types.proofs.Leaves.{length-leaves, length-words}
+use Rattle.stream_types.proofs.LeafWords.{length-leaves, length-words}
 use Rattle.stream_types.proofs.Widths.{measure_is, Stands-element}
 use Rattle.stream_core.specs.WellTyped.{AreInitial}
 

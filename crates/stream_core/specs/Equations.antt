@@ -6,35 +6,35 @@ use Rattle.stream_core.specs.Eval.{Table, Line, lines, value, moment}
 
 abbrev mutual
   -- each stream that is read is read within its bound
-  pub Reads : (ℕ → ℕ) → Term → Type 0
-  Reads bound (lit s w) = Unit {0}
-  Reads bound (extern x) = Unit {0}
-  Reads bound (def d) = Unit {0}
-  Reads bound (missing) = Unit {0}
-  Reads bound (stream s) = 0 < bound s
-  Reads bound (dropped s k) = k < bound s
-  Reads bound (un o s a) = Reads bound a
-  Reads bound (cast x t a) = Reads bound a
-  Reads bound (field t k a) = Reads bound a
-  Reads bound (abs s a) = Reads bound a
-  Reads bound (sign s a) = Reads bound a
-  Reads bound (named d a) = Reads bound a
-  Reads bound (bin o s a b) = Reads bound a × Reads bound b
-  Reads bound (shift w s a cs b) = Reads bound a × Reads bound b
-  Reads bound (and a b) = Reads bound a × Reads bound b
-  Reads bound (or a b) = Reads bound a × Reads bound b
-  Reads bound (implies a b) = Reads bound a × Reads bound b
-  Reads bound (index t a b) = Reads bound a × Reads bound b
-  Reads bound (choose c a b) = Reads bound c × Reads bound a × Reads bound b
-  Reads bound (array t es) = AllRead bound es
-  Reads bound (struct t es) = AllRead bound es
-  Reads bound (majority s es) = AllRead bound es
-  Reads bound (agreed s es) = AllRead bound es
-  Reads bound (lib k form es) = AllRead bound es
+  pub ReadsWithin : (ℕ → ℕ) → Term → Type 0
+  ReadsWithin bound (lit s w) = Unit {0}
+  ReadsWithin bound (extern x) = Unit {0}
+  ReadsWithin bound (def d) = Unit {0}
+  ReadsWithin bound (missing) = Unit {0}
+  ReadsWithin bound (stream s) = 0 < bound s
+  ReadsWithin bound (dropped s k) = k < bound s
+  ReadsWithin bound (un o s a) = ReadsWithin bound a
+  ReadsWithin bound (cast x t a) = ReadsWithin bound a
+  ReadsWithin bound (field t k a) = ReadsWithin bound a
+  ReadsWithin bound (abs s a) = ReadsWithin bound a
+  ReadsWithin bound (sign s a) = ReadsWithin bound a
+  ReadsWithin bound (named d a) = ReadsWithin bound a
+  ReadsWithin bound (bin o s a b) = ReadsWithin bound a × ReadsWithin bound b
+  ReadsWithin bound (shift w s a cs b) = ReadsWithin bound a × ReadsWithin bound b
+  ReadsWithin bound (and a b) = ReadsWithin bound a × ReadsWithin bound b
+  ReadsWithin bound (or a b) = ReadsWithin bound a × ReadsWithin bound b
+  ReadsWithin bound (implies a b) = ReadsWithin bound a × ReadsWithin bound b
+  ReadsWithin bound (index t a b) = ReadsWithin bound a × ReadsWithin bound b
+  ReadsWithin bound (choose c a b) = ReadsWithin bound c × ReadsWithin bound a × ReadsWithin bound b
+  ReadsWithin bound (array t es) = AllRead bound es
+  ReadsWithin bound (struct t es) = AllRead bound es
+  ReadsWithin bound (majority s es) = AllRead bound es
+  ReadsWithin bound (agreed s es) = AllRead bound es
+  ReadsWithin bound (lib k form es) = AllRead bound es
 
   pub AllRead : (ℕ → ℕ) → Terms → Type 0
   AllRead bound end = Unit {0}
-  AllRead bound (more a es) = Reads bound a × AllRead bound es
+  AllRead bound (more a es) = ReadsWithin bound a × AllRead bound es
 
 -- how many initial values a line has
 abbrev pub bound_of : List Line → ℕ → ℕ
@@ -58,7 +58,7 @@ pub record Meets (s : TreeSpec) (h : List (List ℕ)) (n : ℕ) (table : Table) 
 
 -- each expression of a line reads within the bounds
 pub record Bounded (s : TreeSpec) : Type 0 where
-  pub each : AllByRecursion (λ (l : Line). Reads (bound_of (lines s)) l.expr) (lines s)
+  pub each : AllByRecursion (λ (l : Line). ReadsWithin (bound_of (lines s)) l.expr) (lines s)
 
 -- the second list begins with the first
 abbrev pub IsFront : List (List ℕ) → List (List ℕ) → Type 0

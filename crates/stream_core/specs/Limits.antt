@@ -1,4 +1,4 @@
--- Rings of defs, weight and storage.
+-- Cycles of defs, weight and storage.
 use Rattle.std.specs.Prelude.{ℕ, zero, suc, ◌+◌, ◌*◌, ◌≡◌, List, [], ◌∷◌, ◌++◌, length, map, slice_get, sum, Contains, Some, ◌<◌, if◌then◌else◌, nat_le}
 use Rattle.std.specs.List.{AllByRecursion}
 use Rattle.stream_types.specs.Types.{size}
@@ -6,7 +6,7 @@ use Rattle.stream_core.specs.declared.spec.ExternItem.{ExternItem}
 use Rattle.stream_core.specs.Term.{Term, Terms, lit, extern, stream, def, named, missing, dropped, un, bin, shift, cast, and, or, implies, choose, index, field, array, struct, abs, sign, majority, agreed, lib, end, more, TreeSpec, TreeStream, TreeDef, TreeTrigger, TreeObserver, TreeRoot, initial_count, without_defs}
 use Rattle.stream_core.specs.Lower.{lowered_spec}
 
--- ---- rings
+-- ---- cycles
 
 abbrev mutual
   -- the defs that an expression mentions
@@ -51,8 +51,8 @@ abbrev pub Leads : List TreeDef → ℕ → ℕ → ℕ → Type 0
 Leads defs zero a b = Mentions defs a b
 Leads defs (suc n) a b = (c : ℕ) × Mentions defs a c × Leads defs n c b
 
-abbrev pub OnRing : List TreeDef → ℕ → Type 0
-OnRing defs d = (n : ℕ) × Leads defs n d d
+abbrev pub OnCycle : List TreeDef → ℕ → Type 0
+OnCycle defs d = (n : ℕ) × Leads defs n d d
 
 -- numbers that fall along mentions, each below the number of defs
 pub record Ranks (defs : List TreeDef) (rank : ℕ → ℕ) : Type 0 where

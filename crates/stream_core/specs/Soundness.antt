@@ -6,7 +6,7 @@ use Rattle.stream_types.specs.Types.{words}
 use Rattle.stream_core.specs.declared.spec.ExternItem.{ExternItem}
 use Rattle.stream_core.specs.Term.{TreeSpec, TreeStream, TreeDef, TreeTrigger, TreeObserver, TreeRoot, without_defs}
 use Rattle.stream_core.specs.Lower.{lowered_spec}
-use Rattle.stream_core.specs.Limits.{OnRing, plain_weight, weight}
+use Rattle.stream_core.specs.Limits.{OnCycle, plain_weight, weight}
 
 pub data SoundnessFault : Type 0 where
   cycle : ℕ → SoundnessFault
@@ -15,19 +15,19 @@ pub data SoundnessFault : Type 0 where
   root_too_heavy : ℕ → SoundnessFault
   spec_too_heavy : SoundnessFault
 
--- ---- rings
+-- ---- cycles
 
--- the place of the first def declaration that lies on a ring
+-- the place of the first def declaration that lies on a cycle
 pub record CycleAt (defs : List TreeDef) (at : ℕ) : Type 0 where
   pub d : ℕ
   pub def : TreeDef
   pub is : slice_get defs d ≡ Some def
-  pub ring : OnRing defs d
-  pub first : (c : ℕ) → OnRing defs c → d ≤ c
+  pub on_cycle : OnCycle defs d
+  pub first : (c : ℕ) → OnCycle defs c → d ≤ c
   pub place : at ≡ def.at
 
-abbrev pub HasNoRing : List TreeDef → Type 0
-HasNoRing defs = (d : ℕ) → ¬ OnRing defs d
+abbrev pub HasNoCycle : List TreeDef → Type 0
+HasNoCycle defs = (d : ℕ) → ¬ OnCycle defs d
 
 -- ---- sizes
 
@@ -91,7 +91,7 @@ abbrev pub weight_fault : TreeSpec → Option ℕ → Option SoundnessFault
 weight_fault s (Some at) = Some (root_too_heavy at)
 weight_fault s None = if nat_lt 262144 (weight s) then Some spec_too_heavy else None
 
--- the first limit that a specification without rings exceeds
+-- the first limit that a specification without cycles exceeds
 abbrev pub limit_fault : TreeSpec → Option SoundnessFault
 limit_fault s =
     if nat_lt 4096 (declarations s) then Some too_many_decls
@@ -101,4 +101,4 @@ limit_fault s =
 -- the first fault, or none
 abbrev pub IsFirstFault : TreeSpec → Option SoundnessFault → Type 0
 IsFirstFault s (Some (cycle at)) = CycleAt s.defs at
-IsFirstFault s fault = HasNoRing s.defs × (limit_fault s ≡ fault)
+IsFirstFault s fault = HasNoCycle s.defs × (limit_fault s ≡ fault)

@@ -76,7 +76,7 @@ abbrev pub IsGoodForm : LibForm → Type 0
 IsGoodForm (form.OnceIn low high) = (low ≤ high) × (high ≤ 128)
 IsGoodForm (form.HistoricallyIn low high) = (low ≤ high) × (high ≤ 128)
 IsGoodForm (form.SinceIn low high) = (low ≤ high) × (high ≤ 128)
-IsGoodForm (form.Clock period phase) = (1 ≤ period) × (phase < period)
+IsGoodForm (form.Clock period phase) = (1 ≤ period) × (period ≤ 4294967295) × (phase < period)
 IsGoodForm (form.WindowMax n s) = (1 ≤ n) × (n ≤ 12) × IsTrue (is_integer s)
 IsGoodForm (form.WindowMin n s) = (1 ≤ n) × (n ≤ 12) × IsTrue (is_integer s)
 IsGoodForm (form.WindowSum n s) = (1 ≤ n) × (n ≤ 12) × IsTrue (is_integer s)

@@ -7,13 +7,13 @@ ghost use Rattle.stream_core.specs.Value.{SpecValue};
 ghost use Rattle.stream_types.specs.declared.scalar.Ty.{Ty};
 ghost use Rattle.stream_core.specs.Term.{Term, TreeDef, TreeSpec, TreeTrigger, defs_of};
 ghost use Rattle.stream_core.specs.Acyclic.{Acyclic, WellFounded};
-ghost use Rattle.stream_core.specs.Soundness.{HasNoRing};
+ghost use Rattle.stream_core.specs.Soundness.{HasNoCycle};
 ghost use Rattle.stream_core.specs.WellTyped.{HasType, WellTyped};
 ghost use Rattle.stream_core.specs.Library.{greatest_word, least_word};
 ghost use Rattle.stream_core.specs.Eval.{Table, or_none};
 ghost use Rattle.stream_core.specs.Equations.{IsFront};
-ghost use Rattle.stream_core.specs.Handlers.{handler_of};
-ghost use Rattle.stream_core.specs.Meaning.{Bounded, Clean, Meets, closed_spec, handlers, log, step, table};
+ghost use Rattle.stream_core.specs.Handlers.{calls_of, handler_of};
+ghost use Rattle.stream_core.specs.Meaning.{Bounded, Clean, Meets, calls, closed_spec, handlers, log, step, table};
 
 /// The equations of the streams: a stream of `len` initial values has `len + n` values after `n` steps without
 /// hazard, begins with its initial values, and its value `len + t` is its expression at `t`.
@@ -53,9 +53,16 @@ pub fn steps_read_rows_so_far()
     ensures { (s : SpecValue) (h g : List (List ℕ)) (t : ℕ) → take (t + 1) h ≡ take (t + 1) g → step s h t ≡ step s g t }
 {}
 
-/// No two handlers have one name, and a trigger's handler has the trigger's name.
+/// The calls to a step begin those to the next one, which adds the calls of its own events.
+pub fn calls_grow()
+    ensures { (s : SpecValue) (h : List (List ℕ)) (n : ℕ) → calls s h (n + 1) ≡ calls s h n ++ calls_of (closed_spec s) (or_none (step s h n)) ∷ [] }
+{}
+
+/// No two handlers have one name, a trigger's handler has the trigger's name, and each handler is some trigger's name.
 pub fn handlers_are_named_once()
     ensures once { (s : SpecValue) (i j : ℕ) (name : List ℕ) → slice_get (handlers s) i ≡ Some name → slice_get (handlers s) j ≡ Some name → i ≡ j }
+    ensures only { (s : SpecValue) (i : ℕ) (name : List ℕ) → slice_get (handlers s) i ≡ Some name
+        → (k : ℕ) × (x : TreeTrigger) × (slice_get (closed_spec s).triggers k ≡ Some x) × (x.name ≡ name) }
     ensures named { (s : SpecValue) (i : ℕ) (x : TreeTrigger) → slice_get (closed_spec s).triggers i ≡ Some x → slice_get (handlers s) (handler_of (closed_spec s) i) ≡ Some x.name }
 {}
 
@@ -76,14 +83,14 @@ pub fn expressions_have_one_type()
     ensures { (s : TreeSpec) (e : Term) (t u : Ty) → HasType s e t → HasType s e u → t ≡ u }
 {}
 
-/// Where ranks fall along mentions there is no ring of defs.
-pub fn ranks_leave_no_ring()
-    ensures { (defs : List TreeDef) → Acyclic defs → HasNoRing defs }
+/// Where ranks fall along mentions there is no cycle of defs.
+pub fn ranks_leave_no_cycle()
+    ensures { (defs : List TreeDef) → Acyclic defs → HasNoCycle defs }
 {}
 
-/// Where there is no ring of defs there are ranks that fall along mentions.
-pub fn no_ring_gives_ranks()
-    ensures { (s : SpecValue) → WellTyped s → HasNoRing (defs_of s) → Acyclic (defs_of s) }
+/// Where there is no cycle of defs there are ranks that fall along mentions.
+pub fn no_cycle_gives_ranks()
+    ensures { (s : SpecValue) → WellTyped s → HasNoCycle (defs_of s) → Acyclic (defs_of s) }
 {}
 
 /// A well typed specification whose defs have ranks is what `Spec::node` asks for.

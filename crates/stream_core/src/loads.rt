@@ -1,7 +1,7 @@
 // What single roots weigh.
 ghost use Rattle.std.specs.Prelude.{◌≡◌, ◌<◌, ◌≤◌, min, length, map, slice_get, IfSome};
 ghost use Rattle.stream_core.specs.Acyclic.{WellFounded};
-ghost use Rattle.stream_core.specs.Soundness.{HasNoRing};
+ghost use Rattle.stream_core.specs.Soundness.{HasNoCycle};
 ghost use Rattle.stream_core.specs.Term.{defs_of};
 ghost use Rattle.stream_core.specs.WellTyped.{WellTyped};
 ghost use Rattle.stream_core.specs.Weights.{IsGoodItem, heaviest_buffer, heavy, operands};
@@ -38,7 +38,7 @@ impl Spec {
     /// What the expression of a node weighs, or `most` where it is more. It stops once it has counted so far.
     pub fn weight_of(&self, id: NodeId, most: u64) -> u64
         requires typed { WellTyped self.now }
-        requires no_ring { HasNoRing (defs_of self.now) }
+        requires no_cycle { HasNoCycle (defs_of self.now) }
         requires there { id < length self.now.nodes }
         requires small { most ≤ 262145 }
         ensures { result ≡ min (heavy self.now id) most }
@@ -49,7 +49,7 @@ impl Spec {
     /// What the heaviest expression of the buffers of library form `k` weighs, or `most` where it is more.
     pub fn buffer_weight(&self, k: usize, most: u64) -> u64
         requires typed { WellTyped self.now }
-        requires no_ring { HasNoRing (defs_of self.now) }
+        requires no_cycle { HasNoCycle (defs_of self.now) }
         requires there { k < length self.now.libs }
         requires small { most ≤ 262145 }
         ensures { IfSome (slice_get self.now.libs k) (λ x. result ≡ min (heaviest_buffer x.form (map (heavy self.now) x.args)) most) }

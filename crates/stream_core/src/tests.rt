@@ -1,7 +1,7 @@
 // A specification that is made by its calls.
 ghost use Rattle.std.specs.Prelude.{◌≡◌, [], ◌∷◌, IfOk};
 ghost use Rattle.sm_io.specs.Names.{IsNameBytes};
-ghost use Rattle.stream_core.specs.Soundness.{HasNoRing};
+ghost use Rattle.stream_core.specs.Soundness.{HasNoCycle};
 ghost use Rattle.stream_core.specs.Term.{defs_of};
 ghost use Rattle.stream_core.specs.WellTyped.{WellTyped};
 
@@ -138,7 +138,7 @@ fn trigger_over(
 // (extern x Word8) (trigger t true (+ x x) (+ x x))
 fn shared_sums(alloc: Global) -> Result<Spec, AllocError>
     ensures typed { IfOk result (λ s. WellTyped s) }
-    ensures no_ring { IfOk result (λ s. HasNoRing (defs_of s)) }
+    ensures no_cycle { IfOk result (λ s. HasNoCycle (defs_of s)) }
 {
     let mut spec = Spec::new(alloc, name(alloc, "s")?, Types::new(alloc));
     let x_name = name(alloc, "x")?;

@@ -7,7 +7,7 @@ ghost use Rattle.stream_core.specs.declared.spec.Root.{Root};
 ghost use Rattle.stream_core.specs.declared.spec.ObserverItem.{ObserverItem};
 ghost use Rattle.stream_core.specs.declared.spec.StreamItem.{StreamItem};
 ghost use Rattle.stream_core.specs.Meaning.{weight};
-ghost use Rattle.stream_core.specs.Soundness.{HasNoRing};
+ghost use Rattle.stream_core.specs.Soundness.{HasNoCycle};
 ghost use Rattle.stream_core.specs.Term.{defs_of};
 ghost use Rattle.stream_core.specs.WellTyped.{WellTyped};
 ghost use Rattle.stream_core.specs.Weights.{IsGoodItem, IsGoodNode, IsTriggerThere, agreed_weight, buffers_weight, form_weight, heavy, heavy_at, libs_weight, majority_weight, node_weight, nodes_weight, observers_weight, roots_weight, streams_weight, triggers_weight};
@@ -276,7 +276,7 @@ impl Spec {
     /// operands. It takes no memory, and stops once it has counted 262,145, however often a node is shared.
     pub fn weight(&self) -> u64
         requires typed { WellTyped self.now }
-        requires no_ring { HasNoRing (defs_of self.now) }
+        requires no_cycle { HasNoCycle (defs_of self.now) }
         ensures { result ≡ min (weight self.now) 262145 }
     {
         let mut total = weigh_triggers(self, self.triggers(), MOST);

@@ -1,7 +1,7 @@
-pub mod Rows
+pub mod WorkedOperators
 pub mod Ranges
-pub mod Lists
+pub mod GrownLists
 pub mod TypeLists
 pub mod Twins
 pub mod Widths
-pub mod Leaves
+pub mod LeafWords

@@ -16,28 +16,25 @@ use Rattle.stream_types.specs.declared.scalar.Hazard.TheVariants.{Overflow, Zero
 use Rattle.stream_types.specs.Scalars.{bits, signed, is_integer, op2_fits, op2_gives}
 use Rattle.stream_types.specs.Numbers.{number, number_at, word, in_range, is_word_at, is_word, fit, as_word, to_twos, from_twos, quotient, remainder, is_zero, op2_number, op2_word, of_test}
 use Rattle.stream_types.specs.IntTyLaws.{word_back}
+use Rattle.sm_io.proofs.Truths.{both_pass, right_passes}
 
 -- ---- results in range
 
-below : (w : ℕ) → w < 2 ^ 64 → IsTrue (nat_lt w (2 ^ 64))
-below w h = grind (arith, nat_tests)
+pub below_word : (w : ℕ) → w < 2 ^ 64 → IsTrue (nat_lt w (2 ^ 64))
+below_word w h = grind (arith, nat_tests)
 
-and_true : (a b : Bool) → IsTrue a → IsTrue b → IsTrue (a && b)
-and_true true b p q = q
-and_true false b p q = absurd (cc)
-
-word-lt : (n : ℕ) (sign : Bool) (z : ℤ) → n ≤ 64 → IsTrue (in_range n sign z) → word z < 2 ^ 64
+pub word-lt : (n : ℕ) (sign : Bool) (z : ℤ) → n ≤ 64 → IsTrue (in_range n sign z) → word z < 2 ^ 64
 word-lt n true (pos m) b h = let p : n - 1 ≤ 64 = omega arith in let q : m < 2 ^ (n - 1) = grind (arith, nat_tests, h) in omega (arith, q, pow_mono p)
 word-lt n true (negsuc m) b h = omega arith
 word-lt n false (pos m) b h = let q : m < 2 ^ n = grind (arith, nat_tests, h) in omega (arith, q, pow_mono b)
 word-lt n false (negsuc m) b h = omega arith
 
 -- the word of a number in range is a word of the type
-is_word_at-word : (n : ℕ) (sign : Bool) (z : ℤ) → 1 ≤ n → n ≤ 64 → IsTrue (in_range n sign z) → IsTrue (is_word_at n sign (word z))
+pub is_word_at-word : (n : ℕ) (sign : Bool) (z : ℤ) → 1 ≤ n → n ≤ 64 → IsTrue (in_range n sign z) → IsTrue (is_word_at n sign (word z))
 is_word_at-word n sign z a b h =
-    let t : IsTrue (nat_lt (word z) (2 ^ 64)) = below (word z) (word-lt n sign z b h) in
+    let t : IsTrue (nat_lt (word z) (2 ^ 64)) = below_word (word z) (word-lt n sign z b h) in
     let r : IsTrue (in_range n sign (number_at sign (word z))) = rw (word_back n sign z a b h) h in
-    and_true _ _ t r
+    both_pass _ _ t r
 
 -- a number, where it passes a test
 test : (P : ℤ → Type 0) (c : Bool) (z : ℤ) → (c ≡ true → P z) → IfOk (if c then Ok z else Err Overflow) P
@@ -115,22 +112,18 @@ as_word_is scalar.Word16 (Ok z) i h = is_word_at-word 16 false z (omega arith) (
 as_word_is scalar.Word32 (Ok z) i h = is_word_at-word 32 false z (omega arith) (omega arith) h
 as_word_is scalar.Word64 (Ok z) i h = is_word_at-word 64 false z (omega arith) (omega arith) h
 
-both : (a b : Bool) → IsTrue (a && b) → IsTrue b
-both true b h = h
-both false b h = absurd (cc)
-
 number_in_range : (s : Scalar) (a : ℕ) → IsTrue (is_integer s) → IsTrue (is_word s a) → IsTrue (in_range (bits s) (signed s) (number s a))
 number_in_range scalar.Bool a i h = absurd (cc)
-number_in_range scalar.Int8 a i h = both _ _ h
-number_in_range scalar.Int16 a i h = both _ _ h
-number_in_range scalar.Int32 a i h = both _ _ h
-number_in_range scalar.Int64 a i h = both _ _ h
-number_in_range scalar.Word8 a i h = both _ _ h
-number_in_range scalar.Word16 a i h = both _ _ h
-number_in_range scalar.Word32 a i h = both _ _ h
-number_in_range scalar.Word64 a i h = both _ _ h
+number_in_range scalar.Int8 a i h = right_passes _ _ h
+number_in_range scalar.Int16 a i h = right_passes _ _ h
+number_in_range scalar.Int32 a i h = right_passes _ _ h
+number_in_range scalar.Int64 a i h = right_passes _ _ h
+number_in_range scalar.Word8 a i h = right_passes _ _ h
+number_in_range scalar.Word16 a i h = right_passes _ _ h
+number_in_range scalar.Word32 a i h = right_passes _ _ h
+number_in_range scalar.Word64 a i h = right_passes _ _ h
 
-bits_some : (s : Scalar) → 1 ≤ bits s
+pub bits_some : (s : Scalar) → 1 ≤ bits s
 bits_some scalar.Bool = omega arith
 bits_some scalar.Int8 = omega arith
 bits_some scalar.Int16 = omega arith

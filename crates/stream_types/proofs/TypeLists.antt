@@ -13,8 +13,8 @@ use Rattle.stream_types.specs.declared.types.TypeEntry.TheVariants as entry
 use Rattle.stream_types.specs.declared.types.Measured.{Measured}
 use Rattle.stream_types.specs.Types.{at_type, at_fields, at_entry, measures, one_word, scalar_bytes, entry_words, entry_bytes, words, size}
 use Rattle.stream_types.specs.TypeList.{IsArrayEntry, IsStructEntry, Stands, IsNewName, IsNewEntry, IsGoodEntry, IsTypeList}
-use Rattle.stream_types.specs.Kept.{IsKept, entries_of}
-use Rattle.stream_types.proofs.Lists.{at_take, at_append, get_push, take-push, take-length, index_push, within, slice_get-map_read, slice_index-map_read}
+use Rattle.stream_types.specs.Measures.{IsKept, entries_of}
+use Rattle.stream_types.proofs.GrownLists.{at_take, at_append, get_push, take-push, take-length, index_push, within, slice_get-map_read, slice_index-map_read}
 
 -- ---- types stand on in longer lists
 

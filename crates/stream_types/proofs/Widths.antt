@@ -12,7 +12,7 @@ use Rattle.stream_types.specs.Types.{entry_words, words_of, entry_of, fields_of,
 use Rattle.stream_types.specs.TypeList.{IsArrayEntry, IsStructEntry, Stands, IsElement, IsGoodEntry, IsMember, IsNamedAt, IsTypeList}
 use Rattle.std.proofs.lemmas.List.{take-append-drop}
 use Rattle.std.proofs.lemmas.Option.{get_or_from_slice_get, slice_get_within}
-use Rattle.stream_types.proofs.Lists.{within}
+use Rattle.stream_types.proofs.GrownLists.{within}
 use Rattle.stream_types.proofs.TypeLists.{struct_stands}
 
 measures-append : (f : Scalar → ℕ) (before : List ℕ) (es more : List TypeEntry) → measures f before (es ++ more) ≡ measures f (measures f before es) more

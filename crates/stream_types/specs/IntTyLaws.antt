@@ -7,8 +7,9 @@ use Rattle.std.proofs.lemmas.Int.{to_z-of_z, of_z-to_z}
 use Rattle.std.proofs.lemmas.Bool.Decides.{nat_tests}
 use Rattle.std.proofs.lemmas.Nat.{pow_pos}
 use Rattle.stream_types.specs.Numbers.{number_at, word, least, greatest, in_range, is_word_at}
+use Rattle.sm_io.proofs.Truths.{left_passes}
 
-half_below : (m n : ℕ) → n ≤ 64 → IsTrue (nat_lt m (2 ^ (n - 1))) → m < 2 ^ 63
+pub half_below : (m n : ℕ) → n ≤ 64 → IsTrue (nat_lt m (2 ^ (n - 1))) → m < 2 ^ 63
 half_below m n b h =
     let p : n - 1 ≤ 63 = omega arith in
     let q : m < 2 ^ (n - 1) = grind (arith, nat_tests, h) in
@@ -20,13 +21,9 @@ word_back n true (negsuc m) a b h = to_z-of_z w64 (negsuc m) (record { sfits = h
 word_back n false (pos m) a b h = refl
 word_back n false (negsuc m) a b h = absurd (cc)
 
-both_true : (a b : Bool) → IsTrue (a && b) → IsTrue a
-both_true true b h = refl
-both_true false b h = absurd (cc)
-
 pub number_back : (n : ℕ) (sign : Bool) (w : ℕ) → 1 ≤ n → n ≤ 64 → IsTrue (is_word_at n sign w) → word (number_at sign w) ≡ w
 number_back n true w a b h =
-    let t = both_true (nat_lt w (2 ^ 64)) (in_range n true (number_at true w)) h in
+    let t = left_passes (nat_lt w (2 ^ 64)) (in_range n true (number_at true w)) h in
     let p : w < 2 ^ 64 = grind (arith, nat_tests, t) in
     of_z-to_z w64 w p
 number_back n false w a b h = refl

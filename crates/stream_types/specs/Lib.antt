@@ -4,4 +4,4 @@ pub mod IntTy
 pub mod IntTyLaws
 pub mod Types
 pub mod TypeList
-pub mod Kept
+pub mod Measures

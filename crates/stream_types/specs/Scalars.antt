@@ -6,6 +6,15 @@ use Rattle.stream_types.specs.declared.scalar.Op1.{Op1}
 use Rattle.stream_types.specs.declared.scalar.Op1.TheVariants as op1
 use Rattle.stream_types.specs.declared.scalar.Op2.{Op2}
 use Rattle.stream_types.specs.declared.scalar.Op2.TheVariants as op2
+use Rattle.stream_types.specs.declared.scalar.Hazard.{Hazard}
+use Rattle.stream_types.specs.declared.scalar.Hazard.TheVariants as hazard
+
+-- the number of each hazard
+abbrev pub hazard_code : Hazard → ℕ
+hazard_code hazard.Overflow = 1
+hazard_code hazard.ZeroDivisor = 2
+hazard_code hazard.BadShift = 3
+hazard_code hazard.BadIndex = 4
 
 -- the width in bits; a Bool counts as 8
 abbrev pub bits : Scalar → ℕ

@@ -90,10 +90,10 @@ pub record IsTypeList (types : List TypeEntry) : Type 0 where
 -- ---- what its calls do
 
 -- the entry at this place was there already, or was put at the end
-abbrev pub IsPlaced : List TypeEntry → List TypeEntry → TypeEntry → ℕ → Type 0
-IsPlaced old new e i = ((slice_get old i ≡ Some e) × (new ≡ old)) ⊎ ((i ≡ length old) × (new ≡ old ++ e ∷ []))
+abbrev pub IsFoundOrAdded : List TypeEntry → List TypeEntry → TypeEntry → ℕ → Type 0
+IsFoundOrAdded old new e i = ((slice_get old i ≡ Some e) × (new ≡ old)) ⊎ ((i ≡ length old) × (new ≡ old ++ e ∷ []))
 
 -- the answer is an array type of this element and length, found or added
 abbrev pub IsArrayPlaced : List TypeEntry → List TypeEntry → Ty → ℕ → Ty → Type 0
-IsArrayPlaced old new elem n (ty.Array i) = IsPlaced old new (entry.Array elem n) i
+IsArrayPlaced old new elem n (ty.Array i) = IsFoundOrAdded old new (entry.Array elem n) i
 IsArrayPlaced old new elem n _ = ⊥

@@ -1,6 +1,8 @@
-//! Takes the types of a specification and the words that values are kept as.
-//! Gives the list of its types, with their widths and members, and the operators on words.
-//! `specs/Types.antt` says how wide a type is, `specs/Numbers.antt` what each operator answers.
+//! Types of streams, and the operators on words.
+//! In: the types of a specification, and the words that values are kept as. Out: the list of its types, with their
+//! widths and members (`Types`), and what an operator answers (`op1`, `op2`, `shift`, `cast`).
+//! specs/Types.antt says how wide a type is, specs/TypeList.antt the rules of a list of types, specs/Numbers.antt what
+//! each operator answers.
 #![tactic(auto)]
 
 mod arithmetic;
@@ -17,6 +19,7 @@ mod types;
 pub use int_ty::IntTy;
 pub use op_table::{
     BOOL, INTEGERS, OpTable, SCALARS, cast_applies, op1_applies, op2_applies, shift_applies,
+    tables_hold_their_scalars,
 };
 pub use ops::{cast, op1, op2, shift};
 pub use scalar::{Dir, Hazard, Op1, Op2, Scalar, Ty};

@@ -1,7 +1,8 @@
 // The tables of the scalars to which the operators apply.
-ghost use Rattle.std.specs.Prelude.{◌≡◌};
+ghost use Rattle.std.specs.Prelude.{◌≡◌, true};
 ghost use Rattle.std.specs.List.{list_any};
-ghost use Rattle.stream_types.specs.Scalars.{op1_fits, op2_fits, shift_fits, cast_fits};
+ghost use Rattle.stream_types.specs.Scalars.{op1_fits, op2_fits, shift_fits, cast_fits, is_bool, is_integer};
+ghost use Rattle.stream_types.specs.declared.scalar.Scalar.{Scalar};
 
 use crate::scalar::{Op1, Op2, Scalar};
 
@@ -90,3 +91,11 @@ pub fn cast_applies(from: Scalar, to: Scalar) -> bool
 {
     SCALARS.has(from) && INTEGERS.has(to)
 }
+
+/// Which scalars stand in the tables: `BOOL` holds the truth values alone, `INTEGERS` the eight integer scalars, and
+/// `SCALARS` all nine.
+pub fn tables_hold_their_scalars()
+    ensures bool { (s : Scalar) → list_any (λ x. ⟦<Scalar as PartialEq>⟧.eq x s) BOOL.tys ≡ is_bool s }
+    ensures integers { (s : Scalar) → list_any (λ x. ⟦<Scalar as PartialEq>⟧.eq x s) INTEGERS.tys ≡ is_integer s }
+    ensures scalars { (s : Scalar) → list_any (λ x. ⟦<Scalar as PartialEq>⟧.eq x s) SCALARS.tys ≡ true }
+{}

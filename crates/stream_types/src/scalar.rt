@@ -1,3 +1,7 @@
+// Scalars, types, operators and hazards.
+ghost use Rattle.std.specs.Prelude.{◌≡◌};
+ghost use Rattle.stream_types.specs.Scalars.{hazard_code};
+
 /// A type whose values are one word: a truth value as 0 or 1, an unsigned number as itself, a signed
 /// number modulo 2^64.
 #[derive(Clone, Copy, Debug, PartialEq, Eq, Hash)]
@@ -32,6 +36,15 @@ pub enum Hazard {
     BadShift = 3,
     /// The index is not below the array's length.
     BadIndex = 4,
+}
+
+impl Hazard {
+    /// Its number: 1 for Overflow, 2 for ZeroDivisor, 3 for BadShift, 4 for BadIndex.
+    pub fn code(self) -> u8
+        ensures { result ≡ hazard_code self }
+    {
+        self as u8
+    }
 }
 
 /// An operator on one operand.

@@ -162,7 +162,7 @@ impl Model for Types {
 
     ghost Value = { List TypeEntry };
 
-    ghost use Rattle.stream_types.specs.Kept.{IsKept, entries_of};
+    ghost use Rattle.stream_types.specs.Measures.{IsKept, entries_of};
 
     ghost view = { λ t. entries_of t.entries.items };
 

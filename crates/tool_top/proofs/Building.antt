@@ -17,14 +17,11 @@ use Rattle.spec_text.specs.declared.surface.Decl.TheVariants as d
 use Rattle.spec_text.specs.declared.surface.Surface.{Surface}
 use Rattle.typing.specs.Reading.{spec_of, externs_of, triggers_of, extern_names}
 use Rattle.ring_codegen.specs.Built.{IsExternNode, IsBuiltTrigger, IsBuilt}
+use Rattle.sm_io.proofs.Elements.{all_by_place}
 
 none_of : {X Y : Type 0} (f : X → Y) (xs : List X) → map f xs ≡ [] → xs ≡ []
 none_of f [] e = refl
 none_of f (x ∷ xs) e = absurd (cc)
-
-to_all : {X : Type 0} (P : X → Type 0) (xs : List X) → AllByRecursion P xs → All P xs
-to_all P [] h = All-nil P
-to_all P (x ∷ xs) h = All-cons P x xs h.0 (to_all P xs h.1)
 
 -- ---- externs
 
@@ -119,10 +116,10 @@ pub is_built : (s : Surface) (x : SpecValue) → trees x ≡ spec_of s → IsBui
 unfolding spec_of IsBool
 is_built s x is = record {
   types = ap (λ (t : TreeSpec). t.types) is;
-  externs = to_all _ x.externs (externs_bool s x is);
+  externs = all_by_place _ x.externs (externs_bool s x is);
   streams = none_of _ x.streams (ap (λ (t : TreeSpec). t.streams) is);
   defs = none_of _ x.defs (ap (λ (t : TreeSpec). t.defs) is);
-  triggers = to_all _ x.triggers (triggers_built x (libs_none s x is) (triggers_thin s x is));
+  triggers = all_by_place _ x.triggers (triggers_built x (libs_none s x is) (triggers_thin s x is));
   observers = none_of _ x.observers (ap (λ (t : TreeSpec). t.observers) is);
   libs = libs_none s x is;
 }

@@ -3,18 +3,19 @@ use Rattle.std.specs.Prelude.{◌≡◌, ◌≤◌, ◌⊎◌, ℕ, List, slice_
 use Rattle.std.proofs.Common.{sym, subst, refl, ap, ◌∙◌, arith, inl, inr}
 use Rattle.stream_core.specs.Value.{SpecValue}
 use Rattle.stream_core.specs.Term.{TreeSpec, TreeDef, trees}
-use Rattle.stream_core.specs.Soundness.{SoundnessFault, cycle, too_many_decls, too_many_words, root_too_heavy, spec_too_heavy, CycleAt, HasNoRing, limit_fault, IsFirstFault}
+use Rattle.stream_core.specs.Soundness.{SoundnessFault, cycle, too_many_decls, too_many_words, root_too_heavy, spec_too_heavy, CycleAt, HasNoCycle, limit_fault, IsFirstFault}
 use Rattle.spec_forest.specs.Node.{Nodes, forest_nodes}
 use Rattle.spec_forest.specs.Tokens.{IsForestOf}
 use Rattle.spec_forest.specs.Scan.{scan_fault}
 use Rattle.spec_forest.specs.declared.tree.Forest.{Forest}
 use Rattle.spec_text.specs.Form.{IsSurfaceOf, AllMatch, form_of, more, none}
-use Rattle.spec_text.specs.Kept.{KeepsTable}
+use Rattle.spec_text.specs.KeepsTable.{KeepsTable}
 use Rattle.spec_text.specs.Shape.{shape_fault, shape_fault_of}
 use Rattle.spec_text.specs.declared.surface.Surface.{Surface}
 use Rattle.typing.specs.Typing.{type_fault}
 use Rattle.tool_top.specs.declared.outcome.Refusal.{Refusal}
 use Rattle.tool_top.specs.Analysis.{of_scan, of_shape, of_types, of_soundness, Scans, Shapes, IsTypedText, Means, HasScanFault, HasShapeFault, HasTypeFault, HasSoundnessFault, HasFirstFault}
+use Rattle.std.proofs.lemmas.Option.{same_Some}
 
 -- ---- what the crates below state
 
@@ -28,8 +29,8 @@ OneSurface = (forest : Forest) (s t : Surface) → IsSurfaceOf forest s → IsSu
 
 one_cycle : (defs : List TreeDef) (a b : ℕ) → CycleAt defs a → CycleAt defs b → a ≡ b
 one_cycle defs a b x y =
-    let low : x.d ≤ y.d = x.first y.d y.ring in
-    let high : y.d ≤ x.d = y.first x.d x.ring in
+    let low : x.d ≤ y.d = x.first y.d y.on_cycle in
+    let high : y.d ≤ x.d = y.first x.d x.on_cycle in
     let same : x.d ≡ y.d = omega arith in
     let def_is : Some x.def ≡ Some y.def = sym x.is ∙ ap (slice_get defs) same ∙ y.is in
     x.place ∙ ap (λ (o : Option TreeDef). place_in o) def_is ∙ sym y.place
@@ -38,13 +39,13 @@ one_cycle defs a b x y =
     place_in (Some def) = def.at
     place_in None = 0
 
--- either a ring, or no ring and the first limit that is exceeded
+-- either a cycle, or none and the first limit that is exceeded
 data Kind (s : TreeSpec) : Option SoundnessFault → Type 0 where
-  ring : (at : ℕ) → CycleAt s.defs at → Kind s (Some (cycle at))
-  limit : (fault : Option SoundnessFault) → HasNoRing s.defs → limit_fault s ≡ fault → Kind s fault
+  on_cycle : (at : ℕ) → CycleAt s.defs at → Kind s (Some (cycle at))
+  limit : (fault : Option SoundnessFault) → HasNoCycle s.defs → limit_fault s ≡ fault → Kind s fault
 
 kind_of : (s : TreeSpec) (fault : Option SoundnessFault) → IsFirstFault s fault → Kind s fault
-kind_of s (Some (cycle at)) h = ring at h
+kind_of s (Some (cycle at)) h = on_cycle at h
 kind_of s (Some too_many_decls) h = limit (Some too_many_decls) h.0 h.1
 kind_of s (Some too_many_words) h = limit (Some too_many_words) h.0 h.1
 kind_of s (Some (root_too_heavy at)) h = limit (Some (root_too_heavy at)) h.0 h.1
@@ -52,9 +53,9 @@ kind_of s (Some spec_too_heavy) h = limit (Some spec_too_heavy) h.0 h.1
 kind_of s None h = limit None h.0 h.1
 
 one_kind : (s : TreeSpec) (a b : Option SoundnessFault) → Kind s a → Kind s b → a ≡ b
-one_kind s a b (ring at x) (ring at' y) = ap (λ n. Some (cycle n)) (one_cycle s.defs at at' x y)
-one_kind s a b (ring at x) (limit fault free is) = absurd (free x.d x.ring)
-one_kind s a b (limit fault free is) (ring at x) = absurd (free x.d x.ring)
+one_kind s a b (on_cycle at x) (on_cycle at' y) = ap (λ n. Some (cycle n)) (one_cycle s.defs at at' x y)
+one_kind s a b (on_cycle at x) (limit fault free is) = absurd (free x.d x.on_cycle)
+one_kind s a b (limit fault free is) (on_cycle at x) = absurd (free x.d x.on_cycle)
 one_kind s a b (limit fault free is) (limit fault' free' is') = sym is ∙ is'
 
 pub one_unsound : (s : TreeSpec) (a b : Option SoundnessFault) → IsFirstFault s a → IsFirstFault s b → a ≡ b
@@ -78,9 +79,6 @@ one_typed forests surfaces text s t a b = rw (a.trees_are, b.trees_are, one_shap
 
 -- ---- each stage has one fault, and none where it has a value
 
-some_is : {T : Type 0} (x y : T) → Some x ≡ Some y → x ≡ y
-some_is x y h = cc
-
 no_fault : {E : Type 0} (o : Option E) (e : E) → o ≡ None → o ≡ Some e → ⊥
 no_fault o e h k = cc
 
@@ -89,7 +87,7 @@ abbrev Told : {E : Type 0} → (E → Refusal) → Option E → Refusal → Type
 Told {E} of o refusal = (e : E) × (o ≡ Some e) × (refusal ≡ of e)
 
 told_once : {E : Type 0} (of : E → Refusal) (o : Option E) (a b : Refusal) → Told of o a → Told of o b → a ≡ b
-told_once of o a b h k = h.2 ∙ ap of (some_is h.0 k.0 (sym h.1 ∙ k.1)) ∙ sym k.2
+told_once of o a b h k = h.2 ∙ ap of (same_Some h.0 k.0 (sym h.1 ∙ k.1)) ∙ sym k.2
 
 not_told : {E : Type 0} (of : E → Refusal) (o : Option E) (a : Refusal) → o ≡ None → Told of o a → ⊥
 not_told of o a none_is h = no_fault o h.0 none_is h.1
@@ -128,7 +126,7 @@ sound_sound : OneForest → OneSurface → (text : List ℕ) (a b : Refusal) →
 sound_sound forests surfaces text a b h k =
     let same : trees h.0 ≡ trees k.0 = one_typed forests surfaces text h.0 k.0 h.1 k.1 in
     let fault = one_unsound (trees k.0) (Some h.2) (Some k.2) (subst (λ t. IsFirstFault t (Some h.2)) same h.3) k.3 in
-    h.4 ∙ ap of_soundness (some_is h.2 k.2 fault) ∙ sym k.4
+    h.4 ∙ ap of_soundness (same_Some h.2 k.2 fault) ∙ sym k.4
 
 sound_means : OneForest → OneSurface → (text : List ℕ) (a : Refusal) (s : SpecValue) → HasSoundnessFault text a → Means text s → ⊥
 sound_means forests surfaces text a s h k =

@@ -2,8 +2,8 @@
 use Rattle.std.specs.Prelude.{◌≡◌, ℕ, List, Result, Ok, Err, IfOk}
 use Rattle.std.proofs.Common.{subst}
 use Rattle.stream_core.specs.Value.{SpecValue}
-use Rattle.c99_ast.specs.declared.unit.Unit.{Unit as CUnit}
-use Rattle.c99_ast.specs.Spelling.{Spells}
+use Rattle.c99_tree.specs.declared.unit.Unit.{Unit as CUnit}
+use Rattle.c99_tree.specs.Spelling.{Spells}
 use Rattle.ring_codegen.specs.Simulation.{Simulates}
 use Rattle.tool_top.specs.Answer.{IsProgramOf}
 

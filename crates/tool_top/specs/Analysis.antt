@@ -1,28 +1,27 @@
 -- What a text stands for, and its first fault.
-use Rattle.std.specs.Prelude.{◌≡◌, ◌≤◌, ℕ, ◌⊎◌, List, Some, None, Result, Ok, Err}
+use Rattle.std.specs.Prelude.{◌≡◌, ◌≤◌, ℕ, ◌⊎◌, List, Option, Some, None, Result, Ok, Err}
 use Rattle.stream_core.specs.Value.{SpecValue}
 use Rattle.stream_core.specs.Term.{trees}
 use Rattle.stream_core.specs.Meaning.{IsFirstFault}
 use Rattle.stream_core.specs.WellTyped.{WellTyped}
 use Rattle.stream_core.specs.Soundness.{SoundnessFault, cycle, too_many_decls, too_many_words, root_too_heavy, spec_too_heavy}
 use Rattle.spec_forest.specs.Node.{forest_nodes}
-use Rattle.spec_forest.specs.Scan.{scan_fault}
-use Rattle.spec_forest.specs.Sizes as nodes
+use Rattle.spec_forest.specs.Scan.{TextFault, text_too_long, bad_byte, unbalanced, too_deep, scan_fault}
+use Rattle.spec_forest.specs.Answers.{text_fault}
+use Rattle.spec_forest.specs.Extents as nodes
 use Rattle.spec_forest.specs.Tokens.{IsForestOf}
 use Rattle.spec_forest.specs.declared.tree.Forest.{Forest}
 use Rattle.spec_forest.specs.declared.fault.ScanFault.{ScanFault}
-use Rattle.spec_forest.specs.declared.fault.ScanFault.TheVariants as scan
 use Rattle.spec_text.specs.Form.{IsSurfaceOf, form_of}
 use Rattle.spec_text.specs.Extent.{nesting, list_count, item_count}
-use Rattle.spec_text.specs.Kept.{KeepsTable}
-use Rattle.spec_text.specs.Shape.{shape_fault}
+use Rattle.spec_text.specs.KeepsTable.{KeepsTable}
+use Rattle.spec_text.specs.Shape.{SyntaxFault, bad_form, bad_name, bad_literal, shape_fault}
+use Rattle.spec_text.specs.Parses.{syntax_fault}
 use Rattle.spec_text.specs.declared.surface.Surface.{Surface}
 use Rattle.spec_text.specs.declared.fault.ShapeFault.{ShapeFault}
-use Rattle.spec_text.specs.declared.fault.ShapeFault.TheVariants as shape
-use Rattle.typing.specs.Typing.{type_fault}
+use Rattle.typing.specs.Typing.{TypingFault, redeclared, unknown, type_clash, nested_array, type_too_wide, drop_of_no_buffer, drop_too_far, not_yet, type_fault, typing_fault}
 use Rattle.typing.specs.Reading.{spec_of}
 use Rattle.typing.specs.declared.fault.TypeFault.{TypeFault}
-use Rattle.typing.specs.declared.fault.TypeFault.TheVariants as type_
 use Rattle.recursion_check.specs.declared.fault.SoundFault.{SoundFault}
 use Rattle.recursion_check.specs.declared.fault.SoundFault.TheVariants as unsound
 use Rattle.tool_top.specs.declared.outcome.Outcome.{Outcome}
@@ -43,30 +42,27 @@ at_place kind at = record { kind = kind; item = 0; at = at }
 abbrev pub too_long : Refusal
 too_long = nowhere kind.TextTooLong
 
--- The refusal of a fault of each stage. Want of memory is no fault of a text.
-abbrev pub of_scan : ScanFault → Refusal
-of_scan scan.TextTooLong = too_long
-of_scan (scan.BadByte at) = at_place kind.BadByte at
-of_scan (scan.Unbalanced at) = at_place kind.Unbalanced at
-of_scan (scan.TooDeep at) = at_place kind.TooDeep at
-of_scan scan.Memory = nowhere kind.NotYet
+-- the refusal of a fault of each stage
+abbrev pub of_scan : TextFault → Refusal
+of_scan text_too_long = too_long
+of_scan (bad_byte at) = at_place kind.BadByte at
+of_scan (unbalanced at) = at_place kind.Unbalanced at
+of_scan (too_deep at) = at_place kind.TooDeep at
 
-abbrev pub of_shape : ShapeFault → Refusal
-of_shape (shape.BadForm at) = at_place kind.BadForm at
-of_shape (shape.BadName at) = at_place kind.BadName at
-of_shape (shape.BadLiteral at) = at_place kind.BadLiteral at
-of_shape shape.Memory = nowhere kind.NotYet
+abbrev pub of_shape : SyntaxFault → Refusal
+of_shape (bad_form at) = at_place kind.BadForm at
+of_shape (bad_name at) = at_place kind.BadName at
+of_shape (bad_literal at) = at_place kind.BadLiteral at
 
-abbrev pub of_types : TypeFault → Refusal
-of_types (type_.Redeclared at) = at_place kind.Redeclared at
-of_types (type_.Unknown at) = at_place kind.Unknown at
-of_types (type_.TypeClash at) = at_place kind.TypeClash at
-of_types (type_.NestedArray at) = at_place kind.NestedArray at
-of_types (type_.TypeTooWide at) = at_place kind.TypeTooWide at
-of_types (type_.DropOfNoBuffer at) = at_place kind.DropOfNoBuffer at
-of_types (type_.DropTooFar at) = at_place kind.DropTooFar at
-of_types (type_.NotYet at) = at_place kind.NotYet at
-of_types type_.Memory = nowhere kind.NotYet
+abbrev pub of_types : TypingFault → Refusal
+of_types (redeclared at) = at_place kind.Redeclared at
+of_types (unknown at) = at_place kind.Unknown at
+of_types (type_clash at) = at_place kind.TypeClash at
+of_types (nested_array at) = at_place kind.NestedArray at
+of_types (type_too_wide at) = at_place kind.TypeTooWide at
+of_types (drop_of_no_buffer at) = at_place kind.DropOfNoBuffer at
+of_types (drop_too_far at) = at_place kind.DropTooFar at
+of_types (not_yet at) = at_place kind.NotYet at
 
 abbrev pub of_soundness : SoundnessFault → Refusal
 of_soundness (cycle at) = at_place kind.Cycle at
@@ -106,13 +102,13 @@ pub record Means (text : List ℕ) (s : SpecValue) : Type 0 where
 -- ---- the first fault
 
 abbrev pub HasScanFault : List ℕ → Refusal → Type 0
-HasScanFault text refusal = (e : ScanFault) × (scan_fault text ≡ Some e) × (refusal ≡ of_scan e)
+HasScanFault text refusal = (e : TextFault) × (scan_fault text ≡ Some e) × (refusal ≡ of_scan e)
 
 abbrev pub HasShapeFault : List ℕ → Refusal → Type 0
-HasShapeFault text refusal = (forest : Forest) × Scans text forest × (e : ShapeFault) × (shape_fault forest ≡ Some e) × (refusal ≡ of_shape e)
+HasShapeFault text refusal = (forest : Forest) × Scans text forest × (e : SyntaxFault) × (shape_fault forest ≡ Some e) × (refusal ≡ of_shape e)
 
 abbrev pub HasTypeFault : List ℕ → Refusal → Type 0
-HasTypeFault text refusal = (surface : Surface) × Shapes text surface × (e : TypeFault) × (type_fault surface ≡ Some e) × (refusal ≡ of_types e)
+HasTypeFault text refusal = (surface : Surface) × Shapes text surface × (e : TypingFault) × (type_fault surface ≡ Some e) × (refusal ≡ of_types e)
 
 abbrev pub HasSoundnessFault : List ℕ → Refusal → Type 0
 HasSoundnessFault text refusal = (s : SpecValue) × IsTypedText text s × (e : SoundnessFault) × IsFirstFault s (Some e) × (refusal ≡ of_soundness e)
@@ -123,18 +119,19 @@ HasFirstFault text refusal = HasScanFault text refusal ⊎ HasShapeFault text re
 
 -- ---- the stages' answers
 
--- How a fault of a stage stops a run.
+-- How an answer of a stage stops a run: it tells a fault of the text, or want of memory.
+abbrev pub stop_of : {F : Type 0} → (F → Refusal) → Option F → Outcome
+stop_of refusal None = NoMemory
+stop_of refusal (Some fault) = Refused (refusal fault)
+
 abbrev pub stop_of_scan : ScanFault → Outcome
-stop_of_scan scan.Memory = NoMemory
-stop_of_scan e = Refused (of_scan e)
+stop_of_scan e = stop_of of_scan (text_fault e)
 
 abbrev pub stop_of_shape : ShapeFault → Outcome
-stop_of_shape shape.Memory = NoMemory
-stop_of_shape e = Refused (of_shape e)
+stop_of_shape e = stop_of of_shape (syntax_fault e)
 
 abbrev pub stop_of_types : TypeFault → Outcome
-stop_of_types type_.Memory = NoMemory
-stop_of_types e = Refused (of_types e)
+stop_of_types e = stop_of of_types (typing_fault e)
 
 abbrev pub stop_of_soundness : SoundFault → Outcome
 stop_of_soundness (unsound.Cycle at) = Refused (at_place kind.Cycle at)

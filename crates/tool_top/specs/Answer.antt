@@ -5,8 +5,8 @@ use Rattle.sm_io.specs.Fetch.{fetched}
 use Rattle.sm_io.specs.declared.outside.FetchFault.{FetchFault}
 use Rattle.sm_io.specs.declared.outside.FetchFault.TheVariants as fetch
 use Rattle.stream_core.specs.Value.{SpecValue}
-use Rattle.c99_ast.specs.declared.unit.Unit.{Unit as CUnit}
-use Rattle.c99_ast.specs.Spelling.{Spells}
+use Rattle.c99_tree.specs.declared.unit.Unit.{Unit as CUnit}
+use Rattle.c99_tree.specs.Spelling.{Spells}
 use Rattle.ring_codegen.specs.Simulation.{Simulates}
 use Rattle.tool_top.specs.Analysis.{Means, HasFirstFault, too_long, nowhere}
 use Rattle.tool_top.specs.Command.{CommandValue, compile, unbuilt, no_command, header_file, source_file}

@@ -4,7 +4,7 @@ use Rattle.std.specs.List.{list_all, list_any, starts_with}
 use Rattle.std.specs.Cmp.Lexicographic.{pointwise}
 use Rattle.sm_io.specs.Names.{is_name_byte}
 use Rattle.sm_io.specs.Words.{is_name, has_front}
-use Rattle.spec_text.specs.Numbers.{is_decimal, value_of}
+use Rattle.spec_words.specs.Decimals.{is_decimal_between}
 use Rattle.tool_top.specs.declared.outcome.Tool.{Tool}
 use Rattle.tool_top.specs.declared.outcome.Tool.TheVariants.{Copilot, Ogma}
 use Rattle.tool_top.specs.declared.command.Command.{Command}
@@ -36,10 +36,6 @@ is_apart ends file name = not (list_any (is_file_of file name) ends)
 -- one word is the other
 abbrev pub is_word : List ℕ → List ℕ → Bool
 is_word word wanted = pointwise nat_eq word wanted
-
--- a decimal without leading zeros, from the one number to the other
-abbrev pub is_number : ℕ → ℕ → List ℕ → Bool
-is_number least most word = is_decimal word && nat_le least (value_of word) && nat_le (value_of word) most
 
 -- a command with its words
 pub data CommandValue : Type 0 where
@@ -79,7 +75,7 @@ is_cexec word name = is_word word (codes "cexec") && is_name name
 
 -- `demo K T`: 1 to 1,000 streams, and at most 1,000,000 steps
 abbrev pub is_demo : List ℕ → List ℕ → List ℕ → Bool
-is_demo word streams steps = is_word word (codes "demo") && is_number 1 1000 streams && is_number 0 1000000 steps
+is_demo word streams steps = is_word word (codes "demo") && is_decimal_between 1 1000 streams && is_decimal_between 0 1000000 steps
 
 -- `migrate OLD NEW`, two names that differ
 abbrev pub is_migrate : List ℕ → List ℕ → List ℕ → Bool

@@ -10,8 +10,8 @@ use Rattle.tool_top.specs.declared.outcome.RefusalKind.{RefusalKind}
 use Rattle.tool_top.specs.declared.outcome.RefusalKind.TheVariants as kind
 use Rattle.stream_types.specs.declared.scalar.Hazard.{Hazard as HazardKind}
 use Rattle.stream_types.specs.declared.scalar.Hazard.TheVariants as hazard
-use Rattle.c99_ast.specs.declared.undefined.Undefined.{Undefined as UndefinedKind}
-use Rattle.c99_ast.specs.declared.undefined.Undefined.TheVariants as undefined
+use Rattle.c99_tree.specs.declared.undefined.Undefined.{Undefined as UndefinedKind}
+use Rattle.c99_tree.specs.declared.undefined.Undefined.TheVariants as undefined
 use Rattle.extern_rows.specs.declared.fault.RowFault.{RowFault}
 use Rattle.extern_rows.specs.declared.fault.RowFault.TheVariants as row
 use Rattle.tool_top.specs.declared.tell.Place.{Place}

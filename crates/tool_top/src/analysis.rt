@@ -9,8 +9,9 @@ ghost use Rattle.tool_top.specs.Analysis.{at_place, nowhere, stop_of_scan, stop_
 use crate::outcome::{Outcome, Refusal, RefusalKind};
 use recursion_check::{Sound, SoundFault, sound};
 use spec_forest::text_has_one_forest;
-use spec_print::forest_has_one_surface;
-use spec_text::{Forest, ScanFault, ShapeFault, Surface, declarations, trees};
+use spec_text::{
+    Forest, ScanFault, ShapeFault, Surface, declarations, forest_has_one_surface, trees,
+};
 use std::alloc::Global;
 use stream_core::Spec;
 use typing::{TypeFault, type_all};

@@ -4,9 +4,9 @@ ghost use Rattle.std.specs.List.{list_all};
 ghost use Rattle.sm_io.specs.Words.{is_name};
 ghost use Rattle.tool_top.specs.Command.{value_of_command, HasName, copilot_command, ogma_command, command_of, is_compile, is_interpret, is_cexec, is_demo, is_migrate, is_standalone, is_frame, cfs_ends, ros_ends, fprime_ends, is_application, is_file, is_file_byte, is_file_of, is_apart, is_word};
 
-use crate::numbers::is_number;
 use crate::outcome::Tool;
 use sm_io::is_name;
+use spec_words::decimal_between;
 
 /// A command with its words.
 #[derive(Clone, Copy)]
@@ -36,7 +36,7 @@ fn are_file_bytes(word: &[u8]) -> bool
     word.iter().all(|b| is_file_byte(*b))
 }
 
-// Tells whether a word may name a file.
+// Whether a word may name a file.
 fn is_file(word: &[u8]) -> bool
     ensures { result ≡ is_file word.now }
 {
@@ -55,14 +55,14 @@ fn is_file(word: &[u8]) -> bool
     !word.starts_with(b"-")
 }
 
-// Tells whether a text is a name with an ending.
+// Whether a text is a name with an ending.
 fn is_file_of(file: &[u8], name: &[u8], end: &[u8]) -> bool
     ensures { result ≡ is_file_of file.now name.now end.now }
 {
     file.starts_with(name) && &file[name.len()..] == end
 }
 
-// Tells whether a file is none of those with a name and one of the endings.
+// Whether a file is none of those with a name and one of the endings.
 fn is_apart(ends: &[&[u8]], file: &[u8], name: &[u8]) -> bool
     ensures { result ≡ is_apart (map (λ end. end.now) ends.now) file.now name.now }
 {
@@ -74,7 +74,7 @@ fn is_apart(ends: &[&[u8]], file: &[u8], name: &[u8]) -> bool
     true
 }
 
-// Tells whether a word is the one that is wanted.
+// Whether a word is the one that is wanted.
 fn is_word(word: &[u8], wanted: &[u8]) -> bool
     ensures { result ≡ is_word word.now wanted.now }
 {
@@ -83,7 +83,7 @@ fn is_word(word: &[u8], wanted: &[u8]) -> bool
 
 // ---- the rows of `copilot`
 
-// Tells whether three words are a compile. The file is neither of those that are written.
+// Whether three words are a compile. The file is neither of those that are written.
 fn is_compile(word: &[u8], spec: &[u8], name: &[u8]) -> bool
     ensures value { result ≡ is_compile word.now spec.now name.now }
     ensures named { IsTrue result → IsTrue (is_name name.now) }
@@ -124,10 +124,10 @@ fn is_demo(word: &[u8], streams: &[u8], steps: &[u8]) -> bool
     if !is_word(word, b"demo") {
         return false;
     }
-    if !is_number(1, 1_000, streams) {
+    if decimal_between(streams, 1, 1_000).is_none() {
         return false;
     }
-    is_number(0, 1_000_000, steps)
+    decimal_between(steps, 0, 1_000_000).is_some()
 }
 
 fn is_migrate(word: &[u8], old: &[u8], new: &[u8]) -> bool
@@ -145,7 +145,7 @@ fn is_migrate(word: &[u8], old: &[u8], new: &[u8]) -> bool
     !is_word(old, new)
 }
 
-// Tells whether two words are a row whose command isn't built.
+// Whether two words are a row whose command isn't built.
 fn is_unbuilt_pair(word: &[u8], a: &[u8]) -> bool
     ensures { result ≡ is_interpret word.now a.now || is_cexec word.now a.now }
 {
@@ -155,7 +155,7 @@ fn is_unbuilt_pair(word: &[u8], a: &[u8]) -> bool
     is_cexec(word, a)
 }
 
-// Tells whether three words are a row whose command isn't built.
+// Whether three words are a row whose command isn't built.
 fn is_unbuilt_triple(word: &[u8], a: &[u8], b: &[u8]) -> bool
     ensures { result ≡ is_demo word.now a.now b.now || is_migrate word.now a.now b.now }
 {
@@ -224,7 +224,7 @@ fn is_standalone(word: &[u8], reqs: &[u8], spec: &[u8]) -> bool
     !is_word(reqs, spec)
 }
 
-// Tells whether three words are this frame over a file that is none of those that are written.
+// Whether three words are this frame over a file that is none of those that are written.
 fn is_frame(wanted: &[u8], ends: &[&[u8]], word: &[u8], reqs: &[u8], name: &[u8]) -> bool
     ensures { result ≡ is_frame wanted.now (map (λ end. end.now) ends.now) word.now reqs.now name.now }
 {

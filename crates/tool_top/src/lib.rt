@@ -1,11 +1,11 @@
-//! The top call: words in, an outcome out, with the files, the events and the line on the error sink that it tells.
-//! What each outcome means is said by `specs/Answer.antt`, the stages of a text and its first fault by
-//! `specs/Analysis.antt`, the command table by `specs/Command.antt` and the lines by `specs/Lines.antt`.
+//! The tool as one call over a source, a file sink, an output and an error sink.
+//! In: the words of a command. Out: an outcome, with the files, the events and the line on the error sink that it tells.
+//! Defined by specs/Answer.antt (each outcome), specs/Analysis.antt (a text's stages and first fault), specs/Command.antt
+//! (the command table) and specs/Lines.antt; the main call is `run_tool`.
 #![tactic(auto)]
 
 mod analysis;
 mod command;
-mod numbers;
 mod outcome;
 mod tell;
 mod top;

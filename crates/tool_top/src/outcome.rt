@@ -2,7 +2,7 @@
 ghost use Rattle.std.specs.Prelude.{◌≡◌};
 ghost use Rattle.tool_top.specs.Codes.{code_of};
 
-use c99_ast::Undefined;
+use c99_tree::Undefined;
 use extern_rows::RowFault;
 use stream_types::Hazard;
 

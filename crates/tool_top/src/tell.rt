@@ -5,7 +5,7 @@ ghost use Rattle.sm_io.specs.Written.{WritesText};
 ghost use Rattle.tool_top.specs.Lines.{kind_word, place_of, place_text, refusal_line, usage_line, hazard_word, undefined_word, step_line, row_words, row_line, line_of};
 
 use crate::outcome::{Outcome, Refusal, RefusalKind, Tool};
-use c99_ast::Undefined;
+use c99_tree::Undefined;
 use extern_rows::RowFault;
 use itoa::Buffer;
 use sm_io::{Failed, Sink, write_all, write_parts};
@@ -158,7 +158,8 @@ fn tell_step<E: Sink>(title: &[u8], word: &[u8], step: u64, err: &mut E) -> Resu
 }
 
 fn write_row_fault<E: Sink>(fault: &RowFault, leaf: &[u8], err: &mut E) -> Result<(), Failed>
-    ensures { WritesText (E.taken err.old) (E.taken err.new) (E.faults err.old) (E.faults err.new) (is_ok result) (flat_map (λ piece. piece) (row_words fault.now leaf.now)) }
+    ensures { WritesText (E.taken err.old) (E.taken err.new) (E.faults err.old) (E.faults err.new) (is_ok result)
+        (flat_map (λ piece. piece) (row_words fault.now leaf.now)) }
 {
     match fault {
         RowFault::NoColumn(_) => write_parts(err, &[b"NoColumn ", leaf]),
@@ -172,7 +173,8 @@ fn write_row_fault<E: Sink>(fault: &RowFault, leaf: &[u8], err: &mut E) -> Resul
 }
 
 fn write_line_number<E: Sink>(line: u64, err: &mut E) -> Result<(), Failed>
-    ensures { WritesText (E.taken err.old) (E.taken err.new) (E.faults err.old) (E.faults err.new) (is_ok result) (flat_map (λ piece. piece) (codes " at line " ∷ decimal line ∷ codes "\n" ∷ [])) }
+    ensures { WritesText (E.taken err.old) (E.taken err.new) (E.faults err.old) (E.faults err.new) (is_ok result)
+        (flat_map (λ piece. piece) (codes " at line " ∷ decimal line ∷ codes "\n" ∷ [])) }
 {
     let mut number = Buffer::new();
     let line = number.format(line).as_bytes();

@@ -4,8 +4,8 @@ ghost use Rattle.sm_io.specs.Causes.{Rose, HasCause};
 ghost use Rattle.sm_io.specs.Files.{SameBut, with_file};
 ghost use Rattle.sm_io.specs.Written.{WritesText};
 ghost use Rattle.sm_io.specs.Words.{is_name};
-ghost use Rattle.c99_ast.specs.Spelling.{Spells};
-ghost use Rattle.c99_ast.specs.WellFormed.{IsWellFormed};
+ghost use Rattle.c99_tree.specs.Spelling.{Spells};
+ghost use Rattle.c99_tree.specs.WellFormed.{IsWellFormed};
 ghost use Rattle.tool_top.specs.Command.{command_of, file_word};
 ghost use Rattle.tool_top.specs.Answer.{Compiles, Runs, MayStop, IsProgramOf, IsProgramFor, Completes, HasOneOutcome, text_of};
 ghost use Rattle.tool_top.specs.Analysis.{Means, Stops, HasFirstFault};
@@ -15,9 +15,9 @@ use crate::analysis::{analyse, first_fault_is_one, nowhere};
 use crate::command::{Command, command_of};
 use crate::outcome::{Outcome, RefusalKind, Tool};
 use crate::tell::tell;
-use c99_ast::Unit;
 use c99_print::{print_header, print_source, printed_texts_are_spelled};
 use c99_read::texts_spell_one_unit;
+use c99_tree::Unit;
 use ring_codegen::generate;
 use sm_io::{Failed, FetchFault, Name, Shelf, Sink, Source, VecSink};
 use std::alloc::{AllocError, Global};
@@ -83,7 +83,8 @@ fn put_both<F: Shelf>(
     texts: &Texts,
     shelf: &mut F,
 ) -> Result<(), Failed>
-    ensures done { OnOk result (F.files shelf.new ≡ with_file (with_file (F.files shelf.old) header.now texts.now.header.taken) source.now texts.now.source.taken) }
+    ensures done { OnOk result (F.files shelf.new
+        ≡ with_file (with_file (F.files shelf.old) header.now texts.now.header.taken) source.now texts.now.source.taken) }
     ensures failed { OnErr result (SameBut header.now (F.files shelf.old) (F.files shelf.new)
         ⊎ SameBut source.now (with_file (F.files shelf.old) header.now texts.now.header.taken) (F.files shelf.new)) }
     ensures cause { HasCause (F.faults shelf.old) (F.faults shelf.new) result }
@@ -173,12 +174,14 @@ pub fn run_tool<S: Source, K: Sink, E: Sink, F: Shelf>(
     ensures read { result ≡ Outcome.ReadFault → Rose (F.faults shelf.old) (F.faults shelf.new) }
     ensures write { result ≡ Outcome.WriteFault → Rose (F.faults shelf.old) (F.faults shelf.new) }
     // A text without a fault is compiled, unless the count rose or memory ran out.
-    ensures completes { ¬ Rose (F.faults shelf.old) (F.faults shelf.new) → Completes (command_of tool (map string_bytes words.now)) (F.files shelf.old) result }
+    ensures completes { ¬ Rose (F.faults shelf.old) (F.faults shelf.new)
+        → Completes (command_of tool (map string_bytes words.now)) (F.files shelf.old) result }
     // No command that is built reads the input or writes to the output.
     ensures input { input.new ≡ input.old }
     ensures out { out.new ≡ out.old }
     // The outcome's line is on err, or a prefix of it where err failed.
-    ensures line { (whole : Bool) × WritesText (E.taken err.old) (E.taken err.new) (E.faults err.old) (E.faults err.new) whole (line_of tool (file_word (command_of tool (map string_bytes words.now))) result) }
+    ensures line { (whole : Bool) × WritesText (E.taken err.old) (E.taken err.new) (E.faults err.old) (E.faults err.new) whole
+        (line_of tool (file_word (command_of tool (map string_bytes words.now))) result) }
 {
     match command_of(tool, words) {
         Command::Compile { spec, name } => {

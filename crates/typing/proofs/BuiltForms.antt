@@ -1,37 +1,21 @@
--- The names, types and places of forms, one kind at a time.
+-- The names and places of expressions, one kind at a time.
 use Rattle.std.proofs.Common.{◌≡◌, ◌≢◌, ℕ, List, [], refl, sym, ap, ◌∙◌}
 use Rattle.std.specs.Prelude.{Option, Some, None}
-use Rattle.stream_types.specs.declared.scalar.Scalar.{Scalar}
 use Rattle.spec_text.specs.declared.surface.NameAt.{NameAt}
-use Rattle.spec_text.specs.declared.surface.TypeForm.{TypeForm}
-use Rattle.spec_text.specs.declared.surface.TypeForm.TheVariants as t_
-use Rattle.spec_text.specs.declared.surface.TypeForm.TheOpen.{TypeForm-F}
-use Rattle.spec_text.specs.declared.surface.TypeForm.TheFolds.{fold-roll-TypeForm}
 use Rattle.spec_text.specs.declared.surface.Expr.{Expr}
 use Rattle.spec_text.specs.declared.surface.Expr.TheVariants as e_
 use Rattle.spec_text.specs.declared.surface.Expr.TheOpen.{Expr-F}
 use Rattle.spec_text.specs.declared.surface.Expr.TheViews.{out-Expr, roll-Expr, roll-out-Expr}
 use Rattle.spec_text.specs.declared.surface.Expr.TheFolds.{fold-roll-Expr}
 use Rattle.std.specs.Option.{option_map_or}
-use Rattle.spec_text.specs.FormLaws.{form_of_expr-Name}
-use Rattle.typing.specs.Unbuilt.{place_in, name_step, name_of_expr, unbuilt_type_step, unbuilt_type, unbuilt_guard, or_else}
+use Rattle.spec_text.specs.Form.{expr_step, form_of_expr}
+use Rattle.spec_text.specs.FoldRows.{expr-Name}
+use Rattle.typing.specs.Unbuilt.{place_in, name_step, name_of_expr, unbuilt_guard, or_else}
 use Rattle.typing.specs.Reading.{guard_name, place_of}
 
 pub name_of_expr-Name : (x : NameAt) → name_of_expr (e_.Name x) ≡ Some x.name
 unfolding name_of_expr
-name_of_expr-Name x = ap name_of_expr (sym (e_.rolls-Name x)) ∙ fold-roll-Expr (Option (List ℕ)) name_step (Expr-F.Name x)
-
-pub unbuilt_type-Scalar : (at : ℕ) (s : Scalar) → unbuilt_type (t_.Scalar at s) ≡ unbuilt_type_step (TypeForm-F.Scalar at s)
-unfolding unbuilt_type
-unbuilt_type-Scalar at s = ap unbuilt_type (sym (t_.rolls-Scalar at s)) ∙ fold-roll-TypeForm (Option ℕ) unbuilt_type_step (TypeForm-F.Scalar at s)
-
-pub unbuilt_type-Named : (x : NameAt) → unbuilt_type (t_.Named x) ≡ Some x.at
-unfolding unbuilt_type
-unbuilt_type-Named x = ap unbuilt_type (sym (t_.rolls-Named x)) ∙ fold-roll-TypeForm (Option ℕ) unbuilt_type_step (TypeForm-F.Named x)
-
-pub unbuilt_type-Array : (at : ℕ) (elem : TypeForm) (n : ℕ) → unbuilt_type (t_.Array at elem n) ≡ Some at
-unfolding unbuilt_type
-unbuilt_type-Array at elem n = ap unbuilt_type (sym (t_.rolls-Array at elem n)) ∙ fold-roll-TypeForm (Option ℕ) unbuilt_type_step (TypeForm-F.Array at elem n)
+name_of_expr-Name x = expr-Name name_step x
 
 -- what is no name has none
 rolled : (o : Expr-F Expr) → ((x : NameAt) → o ≢ Expr-F.Name x) → name_of_expr (roll-Expr o) ≡ None
@@ -52,7 +36,8 @@ pub guard_name-Name : (e : Expr) (x : NameAt) → e ≡ e_.Name x → guard_name
 guard_name-Name e x same = ap own_name (ap name_of_expr same ∙ name_of_expr-Name x)
 
 pub place_of-Name : (e : Expr) (x : NameAt) → e ≡ e_.Name x → place_of e ≡ x.at
-place_of-Name e x same = ap place_of same ∙ ap place_in (form_of_expr-Name x)
+unfolding form_of_expr
+place_of-Name e x same = ap place_of same ∙ ap place_in (expr-Name expr_step x)
 
 pub built_is_name : (e : Expr) → ((x : NameAt) → e ≢ e_.Name x) → unbuilt_guard e ≡ None → ⊥
 built_is_name e h built =

@@ -2,7 +2,7 @@
 use Rattle.std.specs.Prelude.{◌≡◌, ◌≤◌, ℕ, max}
 use Rattle.std.proofs.Common.{refl, ap, ◌∙◌, arith}
 use Rattle.spec_forest.specs.Node.{Node, Nodes, atom, list, none, more, forest_nodes}
-use Rattle.spec_forest.specs.Sizes as nodes
+use Rattle.spec_forest.specs.Extents as nodes
 use Rattle.spec_forest.specs.declared.tree.Forest.{Forest}
 use Rattle.spec_text.specs.Form.{Form, Forms, word, form, form_of, Matches, AllMatch, IsSurfaceOf}
 use Rattle.spec_text.specs.Form.{none as no_form, more as more_form}

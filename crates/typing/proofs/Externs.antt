@@ -1,18 +1,17 @@
 -- The externs of a text, gathered from its declarations one after another.
-use Rattle.std.proofs.Common.{◌≡◌, ◌≢◌, ℕ, ◌+◌, ◌<◌, ◌≤◌, Bool, true, false, cond, List, [], ◌∷◌, ◌++◌, drop, length, get_or, refl, sym, ap, ◌∙◌, subst, arith}
+use Rattle.std.proofs.Common.{◌≡◌, ◌≢◌, ℕ, ◌+◌, ◌<◌, ◌≤◌, Bool, true, false, cond, List, [], ◌∷◌, ◌++◌, drop, length, get_or, refl, sym, ap, ◌∙◌, subst}
 use Rattle.std.specs.Prelude.{Some, None, ◌||◌, nat_lt, if◌then◌else◌, bytes_eq, position}
 use Rattle.std.specs.List.{list_any, position_or_len}
 use Rattle.std.specs.HashSet.{HashSet}
 use Rattle.std.specs.Cmp.Lexicographic.{nat_list_eq_equiv}
-use Rattle.std.proofs.lemmas.List.{append-nil, append_assoc, drop_more, drop_all, length_push}
+use Rattle.std.proofs.lemmas.List.{append_assoc, drop_more}
 use Rattle.std.proofs.lemmas.List.Folds.{list_any-append}
-use Rattle.stream_core.specs.declared.spec.ExternItem.{ExternItem}
 use Rattle.stream_core.specs.Value.{SpecValue}
 use Rattle.spec_text.specs.declared.surface.NameAt.{NameAt}
 use Rattle.spec_text.specs.declared.surface.TypeForm.{TypeForm}
 use Rattle.spec_text.specs.declared.surface.Decl.{Decl}
 use Rattle.spec_text.specs.declared.surface.Decl.TheVariants as d
-use Rattle.typing.specs.Reading.{extern_names, externs_of, bool_extern}
+use Rattle.typing.specs.Reading.{extern_names, externs_of}
 use Rattle.typing.specs.Gathering.{AreDistinct}
 
 abbrev pub IsNoExtern : Decl → Type 0
@@ -21,10 +20,6 @@ IsNoExtern x = (at : ℕ) (n : NameAt) (t : TypeForm) → x ≢ d.Extern at n t
 extern_names-other : (x : Decl) (ds : List Decl) → IsNoExtern x → extern_names (x ∷ ds) ≡ extern_names ds
 extern_names-other (d.Extern at n t) ds h = absurd (h at n t refl)
 extern_names-other x ds h = refl
-
-externs_of-other : (x : Decl) (ds : List Decl) → IsNoExtern x → externs_of (x ∷ ds) ≡ externs_of ds
-externs_of-other (d.Extern at n t) ds h = absurd (h at n t refl)
-externs_of-other x ds h = refl
 
 -- ---- their names
 
@@ -57,9 +52,6 @@ names_more ds i names names' x at n t h lt e is distinct put =
     let last : names' ≡ names ++ n.name ∷ [] = put ∙ ap (λ b. if b then names else names ++ n.name ∷ []) new in
     ap (λ ns. ns ++ rest) last ∙ append_assoc names (n.name ∷ []) rest ∙ all
 
-pub names_all : (ds : List Decl) (i : ℕ) (names : List (List ℕ)) → names ++ extern_names (drop i ds) ≡ extern_names ds → length ds ≤ i → names ≡ extern_names ds
-names_all ds i names h le = sym (append-nil names) ∙ ap (λ r. names ++ extern_names r) (sym (drop_all i ds le)) ∙ h
-
 pub same_keys : {S : Type 0} (old new : HashSet (List ℕ) S) → old ≡ new → old.keys ≡ new.keys
 same_keys old new e = ap (λ (s : HashSet (List ℕ) _). s.keys) e
 
@@ -70,37 +62,6 @@ pub record HasExterns (ds : List Decl) (i : ℕ) (old now : SpecValue) : Type 0 
   pub rest : now.externs ++ externs_of (drop i ds) ≡ externs_of ds
   pub few : length now.externs ≤ i
   pub others : now ≡ record old { externs = now.externs }
-
-pub externs_none : (ds : List Decl) (old : SpecValue) → old.externs ≡ [] → HasExterns ds 0 old old
-externs_none ds old none = record {
-  rest = ap (λ xs. xs ++ externs_of ds) none;
-  few = let n = ap length none in omega (arith, n);
-  others = refl;
-}
-
-pub externs_other : (ds : List Decl) (i : ℕ) (old now : SpecValue) (x : Decl) → HasExterns ds i old now → i < length ds → x ≡ get_or ds i x → IsNoExtern x → HasExterns ds (i + 1) old now
-externs_other ds i old now x h lt e other = record {
-  rest = ap (λ r. now.externs ++ r) (sym (externs_of-other x (drop (i + 1) ds) other) ∙ ap (λ y. externs_of (y ∷ drop (i + 1) ds)) e ∙ ap externs_of (sym (drop_more ds i x lt))) ∙ h.rest;
-  few = let n = h.few in omega (arith, n);
-  others = h.others;
-}
-
-pub externs_more : (ds : List Decl) (i : ℕ) (old now new : SpecValue) (x : Decl) (at : ℕ) (n : NameAt) (t : TypeForm) → HasExterns ds i old now → i < length ds → x ≡ get_or ds i x → x ≡ d.Extern at n t
-    → new ≡ record now { externs = now.externs ++ bool_extern n.name ∷ [] } → HasExterns ds (i + 1) old new
-externs_more ds i old now new x at n t h lt e is put =
-    let rest = externs_of (drop (i + 1) ds) in
-    let all : now.externs ++ bool_extern n.name ∷ rest ≡ externs_of ds = ap (λ r. now.externs ++ r) (ap (λ y. externs_of (y ∷ drop (i + 1) ds)) (sym is ∙ e) ∙ ap externs_of (sym (drop_more ds i x lt))) ∙ h.rest in
-    let items : SpecValue → List ExternItem = λ s. s.externs in
-    let last : new.externs ≡ now.externs ++ bool_extern n.name ∷ [] = ap items put in
-    record {
-      rest = ap (λ xs. xs ++ rest) last ∙ append_assoc now.externs (bool_extern n.name ∷ []) rest ∙ all;
-      few = let a = ap length last in let b = length_push now.externs (bool_extern n.name) in let c = h.few in omega (arith, a, b, c);
-      others = put ∙ ap (λ (s : SpecValue). record s { externs = now.externs ++ bool_extern n.name ∷ [] }) h.others ∙ ap (λ xs. record old { externs = xs }) (sym last);
-    }
-
-pub externs_all : (ds : List Decl) (i : ℕ) (old now : SpecValue) → HasExterns ds i old now → length ds ≤ i → now ≡ record old { externs = externs_of ds }
-externs_all ds i old now h le =
-    h.others ∙ ap (λ xs. record old { externs = xs }) (sym (append-nil now.externs) ∙ ap (λ r. now.externs ++ externs_of r) (sym (drop_all i ds le)) ∙ h.rest)
 
 -- ---- the number of a name
 

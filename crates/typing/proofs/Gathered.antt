@@ -2,8 +2,8 @@
 use Rattle.std.proofs.Common.{◌≡◌, ◌≢◌, ⊎_elim, ℕ, ◌+◌, ◌<◌, ◌≤◌, Bool, true, false, List, [], ◌∷◌, ◌++◌, drop, length, get_or, refl, sym, ap, ◌∙◌, subst, arith}
 use Rattle.std.specs.Prelude.{Option, Some, None, if◌then◌else◌}
 use Rattle.std.specs.List.{list_any}
-use Rattle.std.proofs.lemmas.List.{append-nil, append_assoc, drop_more, drop_all, length_push}
-use Rattle.stream_types.proofs.Lists.{get_push}
+use Rattle.std.proofs.lemmas.List.{append_assoc, drop_more, length_push}
+use Rattle.stream_types.proofs.GrownLists.{get_push}
 use Rattle.stream_core.specs.declared.node.Node.{Node}
 use Rattle.stream_core.specs.declared.node.Node.TheVariants as node
 use Rattle.stream_core.specs.declared.spec.TriggerItem.{TriggerItem}
@@ -14,11 +14,9 @@ use Rattle.spec_text.specs.declared.surface.NameAt.{NameAt}
 use Rattle.spec_text.specs.declared.surface.Expr.{Expr}
 use Rattle.spec_text.specs.declared.surface.Decl.{Decl}
 use Rattle.spec_text.specs.declared.surface.Decl.TheVariants as d
-use Rattle.typing.specs.declared.fault.TypeFault.{TypeFault}
-use Rattle.typing.specs.declared.fault.TypeFault.TheVariants as fault
-use Rattle.typing.specs.Unbuilt.{unbuilt_guard, unbuilt_args, unbuilt_decl, first_unbuilt}
+use Rattle.typing.specs.Unbuilt.{unbuilt_decl, first_unbuilt}
 use Rattle.typing.specs.Reading.{is_named, guard_name, place_of, guard_of, first_unknown, triggers_of}
-use Rattle.typing.specs.Gathering.{unknown_guard, IsUnknownAt, AreExternNodes, KeepsNodes, IsRootOf, IsTriggerOf, AreTriggersOf, IsAdded, IsGathered}
+use Rattle.typing.specs.Gathering.{unknown_guard, AreExternNodes, KeepsNodes, IsRootOf, IsTriggerOf, AreTriggersOf, IsAdded}
 use Rattle.typing.proofs.BuiltForms.{or_else-None}
 
 -- ---- nodes
@@ -95,18 +93,6 @@ pub record HasTriggers (externs : List (List ℕ)) (ds : List Decl) (i : ℕ) (o
 no_nodes : (count : ℕ) → AreExternNodes count []
 no_nodes count i n e = absurd (cc)
 
-pub triggers_none : (externs : List (List ℕ)) (ds : List Decl) (old : SpecValue) → first_unbuilt ds ≡ None → old.nodes ≡ [] → old.triggers ≡ [] → HasTriggers externs ds 0 old old
-triggers_none externs ds old built nodes none = record {
-  read = [];
-  triggers = subst (λ xs. AreTriggersOf old.nodes xs []) (sym none) tt;
-  rest = refl;
-  unknown = refl;
-  built = built;
-  nodes = subst (AreExternNodes (length externs)) (sym nodes) (no_nodes (length externs));
-  few = let n = ap length none in omega (arith, n);
-  others = refl;
-}
-
 at_drop : {Y : Type 0} (f : List Decl → Y) (ds : List Decl) (i : ℕ) (x : Decl) → i < length ds → x ≡ get_or ds i x → f (x ∷ drop (i + 1) ds) ≡ f (drop i ds)
 at_drop f ds i x lt e = ap (λ y. f (y ∷ drop (i + 1) ds)) e ∙ ap f (sym (drop_more ds i x lt))
 
@@ -122,19 +108,9 @@ triggers_other externs ds i old now x h lt e other = record {
   others = h.others;
 }
 
--- the guard of a trigger in the rest is a name
-pub guard_built : (externs : List (List ℕ)) (ds : List Decl) (i : ℕ) (old now : SpecValue) (x : Decl) (at : ℕ) (n : NameAt) (guard : Expr) (args : List Expr) → HasTriggers externs ds i old now → i < length ds → x ≡ get_or ds i x → x ≡ d.Trigger at n guard args → unbuilt_guard guard ≡ None
-guard_built externs ds i old now x at n guard args h lt e is =
-    let b = (or_else-None (unbuilt_decl x) (first_unbuilt (drop (i + 1) ds)) (at_drop first_unbuilt ds i x lt e ∙ h.built)).0 in
-    (or_else-None (unbuilt_guard guard) (unbuilt_args args) (ap unbuilt_decl (sym is) ∙ b)).0
-
 known_on : (b : Bool) (p : ℕ) (f : Option ℕ) → (if b then None else Some p) ≡ None → (if b then f else Some p) ≡ f
 known_on true p f h = refl
 known_on false p f h = absurd (cc)
-
-unknown_on : (b : Bool) (p at : ℕ) (f : Option ℕ) → (if b then None else Some p) ≡ Some at → (if b then f else Some p) ≡ Some at
-unknown_on true p at f h = absurd (cc)
-unknown_on false p at f h = h
 
 pub triggers_more : (externs : List (List ℕ)) (ds : List Decl) (i : ℕ) (old now new : SpecValue) (x : Decl) (at : ℕ) (n : NameAt) (guard : Expr) (args : List Expr)
     → HasTriggers externs ds i old now → i < length ds → x ≡ get_or ds i x → x ≡ d.Trigger at n guard args
@@ -153,21 +129,3 @@ triggers_more externs ds i old now new x at n guard args h lt e is known add =
       few = let a = ap length add.last in let b = length_push now.triggers add.item in let c = h.few in omega (arith, a, b, c);
       others = add.others ∙ ap (λ (s : SpecValue). record s { nodes = new.nodes; triggers = new.triggers }) h.others;
     }
-
--- a guard of the rest that is unknown is the first
-pub triggers_fault : (externs : List (List ℕ)) (ds : List Decl) (i : ℕ) (old now : SpecValue) (x : Decl) (at : ℕ) (n : NameAt) (guard : Expr) (args : List Expr) (f : TypeFault)
-    → HasTriggers externs ds i old now → i < length ds → x ≡ get_or ds i x → x ≡ d.Trigger at n guard args
-    → IsUnknownAt (unknown_guard externs guard) f → IsUnknownAt (first_unknown externs ds) f
-triggers_fault externs ds i old now x at n guard args (fault.Unknown place) h lt e is u =
-    sym h.unknown ∙ sym (at_drop (first_unknown externs) ds i x lt e) ∙ ap (λ y. first_unknown externs (y ∷ drop (i + 1) ds)) is
-    ∙ unknown_on (list_any (is_named (guard_name guard)) externs) (place_of guard) place (first_unknown externs (drop (i + 1) ds)) u
-triggers_fault externs ds i old now x at n guard args fault.Memory h lt e is u = tt
-triggers_fault externs ds i old now x at n guard args f h lt e is u = absurd u
-
-pub triggers_all : (externs : List (List ℕ)) (ds : List Decl) (i : ℕ) (old now : SpecValue) → HasTriggers externs ds i old now → length ds ≤ i → IsGathered externs ds old now
-triggers_all externs ds i old now h le = record {
-  known = sym h.unknown ∙ ap (first_unknown externs) (drop_all i ds le);
-  triggers = subst (AreTriggersOf now.nodes now.triggers) (sym (append-nil h.read) ∙ ap (λ r. h.read ++ triggers_of externs r) (sym (drop_all i ds le)) ∙ h.rest) h.triggers;
-  nodes = h.nodes;
-  others = h.others;
-}

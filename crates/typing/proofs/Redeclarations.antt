@@ -19,16 +19,9 @@ use Rattle.stream_core.proofs.SameNode.{list_same}
 use Rattle.typing.specs.Unbuilt.{or_else}
 use Rattle.typing.specs.Names.{structs, fields, items, Declared, declared_as, names_of, names_from, forbids, is_redeclared, first_redeclared, name_fault}
 use Rattle.typing.specs.Seen.{clashes, IsSeen}
+use Rattle.std.proofs.Math.Bool.{or-false, and-true}
 
 -- ---- tests
-
-or_false : (a : Bool) → (a || false) ≡ a
-or_false true = refl
-or_false false = refl
-
-and_true : (a : Bool) → (a && true) ≡ a
-and_true true = refl
-and_true false = refl
 
 -- what is declared once is not shared
 not_shared : (a : Bool) → not (a && false && false) ≡ true
@@ -80,7 +73,7 @@ field_forbids : (v i : ℕ) (x : NameAt) (f : FieldForm) → forbids v (declared
 field_forbids v i x f =
     ap (λ b. b && bytes_eq x.name f.name.name && not (nat_eq v 2 && false && false)) (same_number i)
     ∙ ap (λ b. bytes_eq x.name f.name.name && b) (not_shared (nat_eq v 2))
-    ∙ and_true (bytes_eq x.name f.name.name)
+    ∙ and-true (bytes_eq x.name f.name.name)
 
 field_seen : (v i : ℕ) (x : NameAt) (done : List FieldForm) → is_redeclared v (field_names i done) (declared_as (fields i) x false) ≡ list_any (bytes_eq x.name) (map field_name done)
 field_seen v i x [] = refl
@@ -199,7 +192,7 @@ item_after v before i ss is is' x t h free put y u = by (bytes_eq y.name x.name)
     by false e =
         let p : lookup (bytes_eq y.name) is' ≡ lookup (bytes_eq y.name) is = put y.name ∙ ap (λ b. cond b (Some (nat_eq v 2 && t)) (lookup (bytes_eq y.name) is)) (nat_list_eq_equiv.symm x.name y.name ∙ e) in
         ap (λ b. is_redeclared v before (declared_as items y u) || (b && not (nat_eq v 2 && u && t) || false)) e
-        ∙ or_false (is_redeclared v before (declared_as items y u))
+        ∙ or-false (is_redeclared v before (declared_as items y u))
         ∙ h.items_are y u
         ∙ ap (clashes (nat_eq v 2 && u)) (sym p)
 
@@ -208,15 +201,15 @@ pub item_seen : (v : ℕ) (before : List Declared) (i : ℕ) (ss : List (List �
     → ((q : List ℕ) → lookup (bytes_eq q) is' ≡ cond (bytes_eq x.name q) (Some (nat_eq v 2 && t)) (lookup (bytes_eq q) is))
     → IsSeen v (before ++ declared_as items x t ∷ []) i ss is'
 item_seen v before i ss is is' x t h free put = record {
-  structs_are = λ y. list_any-append (forbids v (declared_as structs y false)) before (declared_as items x t ∷ []) ∙ or_false _ ∙ h.structs_are y;
+  structs_are = λ y. list_any-append (forbids v (declared_as structs y false)) before (declared_as items x t ∷ []) ∙ or-false _ ∙ h.structs_are y;
   items_are = λ y u. list_any-append (forbids v (declared_as items y u)) before (declared_as items x t ∷ []) ∙ item_after v before i ss is is' x t h free put y u;
-  fields_are = λ j y le. list_any-append (forbids v (declared_as (fields j) y false)) before (declared_as items x t ∷ []) ∙ or_false _ ∙ h.fields_are j y le;
+  fields_are = λ j y le. list_any-append (forbids v (declared_as (fields j) y false)) before (declared_as items x t ∷ []) ∙ or-false _ ∙ h.fields_are j y le;
 }
 
 -- a struct's names
 
 struct_forbids : (v : ℕ) (y x : NameAt) → forbids v (declared_as structs y false) (declared_as structs x false) ≡ bytes_eq y.name x.name
-struct_forbids v y x = ap (λ b. bytes_eq y.name x.name && b) (not_shared (nat_eq v 2)) ∙ and_true (bytes_eq y.name x.name)
+struct_forbids v y x = ap (λ b. bytes_eq y.name x.name && b) (not_shared (nat_eq v 2)) ∙ and-true (bytes_eq y.name x.name)
 
 pub struct_again : (v : ℕ) (before : List Declared) (i : ℕ) (ss : List (List ℕ)) (is : List (List ℕ × Bool)) (at : ℕ) (x : NameAt) (fs : List FieldForm) → IsSeen v before i ss is → list_any (bytes_eq x.name) ss ≡ true → first_redeclared v before (names_of i (d.Struct at x fs)) ≡ Some x.at
 struct_again v before i ss is at x fs h e = if_true (is_redeclared v before (declared_as structs x false)) _ _ (h.structs_are x ∙ e)
@@ -226,7 +219,7 @@ struct_new v before i ss is at x fs h e =
     let s = declared_as structs x false in
     if_false (is_redeclared v before s) _ _ (h.structs_are x ∙ e)
     ∙ ap (λ b. first_redeclared v b (field_names i fs)) (sym (append-nil (before ++ s ∷ [])))
-    ∙ fields_apart v i (before ++ s ∷ []) [] fs (λ y. list_any-append (forbids v (declared_as (fields i) y false)) before (s ∷ []) ∙ or_false _ ∙ h.fields_are i y (omega arith))
+    ∙ fields_apart v i (before ++ s ∷ []) [] fs (λ y. list_any-append (forbids v (declared_as (fields i) y false)) before (s ∷ []) ∙ or-false _ ∙ h.fields_are i y (omega arith))
 
 structs_pass : (v i : ℕ) (y : NameAt) (fs : List FieldForm) → is_redeclared v (field_names i fs) (declared_as structs y false) ≡ false
 structs_pass v i y [] = refl
@@ -255,13 +248,13 @@ struct_seen v before i ss is at x fs h = record {
       let new = declared_as items y u in
       list_any-append (forbids v new) before (names_of i (d.Struct at x fs))
       ∙ ap (λ b. is_redeclared v before new || b) (items_pass v i y u fs)
-      ∙ or_false _
+      ∙ or-false _
       ∙ h.items_are y u;
   fields_are = λ j y le.
       let new = declared_as (fields j) y false in
       list_any-append (forbids v new) before (names_of i (d.Struct at x fs))
       ∙ ap (λ b. is_redeclared v before new || b) (later_fields_pass v i j y fs (omega arith))
-      ∙ or_false _
+      ∙ or-false _
       ∙ h.fields_are j y (omega arith);
 }
 

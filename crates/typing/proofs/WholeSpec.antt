@@ -24,17 +24,18 @@ use Rattle.stream_core.specs.WellTyped.{declared_names as names_declared}
 use Rattle.spec_text.specs.declared.surface.Decl.{Decl}
 use Rattle.spec_text.specs.declared.surface.Decl.TheVariants as d
 use Rattle.spec_text.specs.declared.surface.Surface.{Surface}
-use Rattle.spec_text.specs.Kept.{all_kept, kept_from, keeps_name, keeps_type, keeps_expr, keeps_decl, keeps_table, KeepsTable}
+use Rattle.spec_text.specs.KeepsTable.{all_kept, kept_from, keeps_name, keeps_type, keeps_expr, keeps_decl, keeps_table, KeepsTable}
 use Rattle.spec_text.specs.Form.{forms, form_of_decl, form_of}
 use Rattle.spec_text.specs.Extent.{list_count, list_counts}
 use Rattle.typing.specs.Names.{name_fault}
 use Rattle.typing.specs.declared.fault.TypeFault.{TypeFault}
 use Rattle.typing.specs.declared.fault.TypeFault.TheVariants as fault
 use Rattle.typing.specs.Unbuilt.{unbuilt, first_unbuilt}
-use Rattle.typing.specs.Reading.{extern_names, externs_of, bool_extern, is_named, guard_name, place_of, guard_of, first_unknown, unknown, triggers_of, spec_of}
+use Rattle.typing.specs.Reading.{extern_names, externs_of, bool_extern, is_named, guard_name, place_of, guard_of, first_unknown, unknown_name, triggers_of, spec_of}
 use Rattle.typing.specs.Gathering.{AreExternNodes, IsTriggerOf, AreTriggersOf, IsGathered, IsUnknownAt}
-use Rattle.typing.specs.Typing.{fault_at, type_fault, IsTyped, Types}
+use Rattle.typing.specs.Typing.{redeclared, unknown, not_yet, fault_at, type_fault, IsTyped, Types}
 use Rattle.typing.proofs.Apart.{trigger_names, externs_distinct, triggers_apart, distinct_once, none_of_at}
+use Rattle.sm_io.proofs.Truths.{right_passes, left_passes}
 
 -- ---- counts
 
@@ -60,20 +61,12 @@ few_externs (x ∷ ds) = let a = few_externs ds in omega (arith, a)
 
 -- ---- names
 
-and_left : (a b : Bool) → IsTrue (a && b) → IsTrue a
-and_left true b h = refl
-and_left false b h = h
-
-and_right : (a b : Bool) → IsTrue (a && b) → IsTrue b
-and_right true b h = h
-and_right false b h = absurd (cc)
-
 decls_kept : (s : Surface) → KeepsTable s → IsName s.name × IsTrue (all_kept (map (keeps_decl s.version) s.decls))
 unfolding keeps_table
 decls_kept s h =
     let version = s.version == 1 || s.version == 2 in
     let decls = all_kept (map (keeps_decl s.version) s.decls) in
-    (and_right version (is_name s.name) (and_left (version && is_name s.name) decls h), and_right (version && is_name s.name) decls h)
+    (right_passes version (is_name s.name) (left_passes (version && is_name s.name) decls h), right_passes (version && is_name s.name) decls h)
 
 abbrev IsNamedExtern : ExternItem → Type 0
 IsNamedExtern x = IsName x.name
@@ -82,9 +75,9 @@ externs_named : (v : ℕ) (ds : List Decl) → IsTrue (all_kept (map (keeps_decl
 externs_named v [] h = All-nil IsNamedExtern
 externs_named v (d.Extern at n t ∷ ds) h =
     let rest = all_kept (map (keeps_decl v) ds) in
-    let name : IsName n.name = and_left (keeps_name n) (keeps_type t) (and_left (keeps_decl v (d.Extern at n t)) rest h) in
-    All-cons IsNamedExtern (bool_extern n.name) (externs_of ds) name (externs_named v ds (and_right (keeps_decl v (d.Extern at n t)) rest h))
-externs_named v (x ∷ ds) h = externs_named v ds (and_right (keeps_decl v x) (all_kept (map (keeps_decl v) ds)) h)
+    let name : IsName n.name = left_passes (keeps_name n) (keeps_type t) (left_passes (keeps_decl v (d.Extern at n t)) rest h) in
+    All-cons IsNamedExtern (bool_extern n.name) (externs_of ds) name (externs_named v ds (right_passes (keeps_decl v (d.Extern at n t)) rest h))
+externs_named v (x ∷ ds) h = externs_named v ds (right_passes (keeps_decl v x) (all_kept (map (keeps_decl v) ds)) h)
 
 abbrev AreNamed : List TreeTrigger → Type 0
 AreNamed ts = AllByRecursion (λ (t : TreeTrigger). IsName t.name) ts
@@ -93,11 +86,11 @@ trees_named : (v : ℕ) (externs : List (List ℕ)) (ds : List Decl) → IsTrue 
 trees_named v externs [] h = tt
 trees_named v externs (d.Trigger at n guard args ∷ ds) h =
     let rest = all_kept (map (keeps_decl v) ds) in
-    let k = and_left (keeps_decl v (d.Trigger at n guard args)) rest h in
+    let k = left_passes (keeps_decl v (d.Trigger at n guard args)) rest h in
     let parts = kept_from 0 16 (map keeps_expr args) in
-    let name : IsName n.name = and_left (keeps_name n) (keeps_expr guard) (and_left (keeps_name n && keeps_expr guard) parts k) in
-    (name, trees_named v externs ds (and_right (keeps_decl v (d.Trigger at n guard args)) rest h))
-trees_named v externs (x ∷ ds) h = trees_named v externs ds (and_right (keeps_decl v x) (all_kept (map (keeps_decl v) ds)) h)
+    let name : IsName n.name = left_passes (keeps_name n) (keeps_expr guard) (left_passes (keeps_name n && keeps_expr guard) parts k) in
+    (name, trees_named v externs ds (right_passes (keeps_decl v (d.Trigger at n guard args)) rest h))
+trees_named v externs (x ∷ ds) h = trees_named v externs ds (right_passes (keeps_decl v x) (all_kept (map (keeps_decl v) ds)) h)
 
 abbrev IsNamedTrigger : TriggerItem → Type 0
 IsNamedTrigger x = IsName x.name
@@ -256,7 +249,7 @@ good_names s nodes triggers kept once are =
       alike = λ i j x y e f same. ap types ((trigger_at nodes triggers ts are i x e).1 ∙ sym (trigger_at nodes triggers ts are j y f).1);
     }
 
-no_fault : (a b c : Option ℕ) → a ≡ None → b ≡ None → c ≡ None → fault_at fault.Redeclared a (fault_at fault.NotYet b (fault_at fault.Unknown c None)) ≡ None
+no_fault : (a b c : Option ℕ) → a ≡ None → b ≡ None → c ≡ None → fault_at redeclared a (fault_at not_yet b (fault_at unknown c None)) ≡ None
 no_fault None None None p q r = refl
 no_fault (Some x) b c p q r = absurd (cc)
 no_fault None (Some x) c p q r = absurd (cc)
@@ -264,7 +257,7 @@ no_fault None None (Some x) p q r = absurd (cc)
 
 pub gathered_typed : (s : Surface) (nodes : List Node) (triggers : List TriggerItem) → KeepsTable s → name_fault s ≡ None → unbuilt s ≡ None → first_unknown (extern_names s.decls) s.decls ≡ None
     → AreTriggersOf nodes triggers (triggers_of (extern_names s.decls) s.decls) → AreExternNodes (length (extern_names s.decls)) nodes → IsTyped s (whole s nodes triggers)
-unfolding unknown spec_of
+unfolding unknown_name spec_of
 gathered_typed s nodes triggers kept once built known are placed =
     let ds = s.decls in
     let x = whole s nodes triggers in
@@ -316,23 +309,20 @@ pub unbuilt_is : (s : Surface) (ds : List Decl) (o : Option ℕ) → o ≡ first
 unfolding unbuilt
 unbuilt_is s ds o e d = ap first_unbuilt (sym d) ∙ sym e
 
-pub fault_names : (s : Surface) (at : ℕ) → name_fault s ≡ Some at → type_fault s ≡ Some (fault.Redeclared at)
-fault_names s at h = ap (λ o. fault_at fault.Redeclared o (fault_at fault.NotYet (unbuilt s) (fault_at fault.Unknown (unknown s) None))) h
-
-pub fault_unbuilt : (s : Surface) (at : ℕ) → name_fault s ≡ None → unbuilt s ≡ Some at → type_fault s ≡ Some (fault.NotYet at)
+pub fault_unbuilt : (s : Surface) (at : ℕ) → name_fault s ≡ None → unbuilt s ≡ Some at → type_fault s ≡ Some (not_yet at)
 fault_unbuilt s at once h =
-    ap (λ o. fault_at fault.Redeclared o (fault_at fault.NotYet (unbuilt s) (fault_at fault.Unknown (unknown s) None))) once
-    ∙ ap (λ o. fault_at fault.NotYet o (fault_at fault.Unknown (unknown s) None)) h
+    ap (λ o. fault_at redeclared o (fault_at not_yet (unbuilt s) (fault_at unknown (unknown_name s) None))) once
+    ∙ ap (λ o. fault_at not_yet o (fault_at unknown (unknown_name s) None)) h
 
 -- an unknown guard, where names and forms are as they should be
 pub fault_unknown : (s : Surface) (externs : List (List ℕ)) (ds : List Decl) (e : TypeFault) → name_fault s ≡ None → unbuilt s ≡ None → externs ≡ extern_names ds → ds ≡ s.decls
     → IsUnknownAt (first_unknown externs ds) e → Types s (Err e)
-unfolding unknown
+unfolding unknown_name
 fault_unknown s externs ds (fault.Unknown at) once built n d h =
     let names : externs ≡ extern_names s.decls = n ∙ ap extern_names d in
     let is : first_unknown (extern_names s.decls) s.decls ≡ Some at = ap (λ ns. first_unknown ns s.decls) (sym names) ∙ ap (first_unknown externs) (sym d) ∙ h in
-    ap (λ o. fault_at fault.Redeclared o (fault_at fault.NotYet (unbuilt s) (fault_at fault.Unknown (unknown s) None))) once
-    ∙ ap (λ o. fault_at fault.NotYet o (fault_at fault.Unknown (unknown s) None)) built
-    ∙ ap (λ o. fault_at fault.Unknown o None) is
+    ap (λ o. fault_at redeclared o (fault_at not_yet (unbuilt s) (fault_at unknown (unknown_name s) None))) once
+    ∙ ap (λ o. fault_at not_yet o (fault_at unknown (unknown_name s) None)) built
+    ∙ ap (λ o. fault_at unknown o None) is
 fault_unknown s externs ds fault.Memory once built n d h = tt
 fault_unknown s externs ds e once built n d h = absurd h

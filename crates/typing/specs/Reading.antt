@@ -41,11 +41,12 @@ place_of e = place_in (form_of_expr e)
 -- the place of the first guard that is no extern, wherever that stands in the text
 abbrev pub first_unknown : List (List ℕ) → List Decl → Option ℕ
 first_unknown externs [] = None
-first_unknown externs (d.Trigger at x guard args ∷ ds) = if list_any (is_named (guard_name guard)) externs then first_unknown externs ds else Some (place_of guard)
+first_unknown externs (d.Trigger at x guard args ∷ ds) =
+    if list_any (is_named (guard_name guard)) externs then first_unknown externs ds else Some (place_of guard)
 first_unknown externs (_ ∷ ds) = first_unknown externs ds
 
-unfoldable pub unknown : Surface → Option ℕ
-unknown s = first_unknown (extern_names s.decls) s.decls
+unfoldable pub unknown_name : Surface → Option ℕ
+unknown_name s = first_unknown (extern_names s.decls) s.decls
 
 -- ---- the specification, in text order within each kind
 

@@ -14,5 +14,6 @@ clashes shared earlier = option_map_or (λ (shares : Bool). not (shared && share
 -- i or of a later one came before.
 pub record IsSeen (version : ℕ) (before : List Declared) (i : ℕ) (struct_names : List (List ℕ)) (item_names : List (List ℕ × Bool)) : Type 0 where
   pub structs_are : (x : NameAt) → is_redeclared version before (declared_as structs x false) ≡ list_any (bytes_eq x.name) struct_names
-  pub items_are : (x : NameAt) (trigger : Bool) → is_redeclared version before (declared_as items x trigger) ≡ clashes (nat_eq version 2 && trigger) (lookup (bytes_eq x.name) item_names)
+  pub items_are : (x : NameAt) (trigger : Bool) → is_redeclared version before (declared_as items x trigger)
+      ≡ clashes (nat_eq version 2 && trigger) (lookup (bytes_eq x.name) item_names)
   pub fields_are : (j : ℕ) (x : NameAt) → i ≤ j → is_redeclared version before (declared_as (fields j) x false) ≡ false

@@ -1,5 +1,6 @@
-//! From the surface of a specification to its typed form.
+//! The typed form of a specification's surface.
 //! In: a surface that keeps the table of forms. Out: the typed specification, or the first fault of names and types.
+//! Defined by specs/Reading.antt (`spec_of`) and specs/Typing.antt (`type_fault`); the main call is `type_all`.
 #![tactic(auto)]
 
 mod fault;

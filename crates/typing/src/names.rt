@@ -27,7 +27,8 @@ fn twin(
     seen: &mut IndexSet<Name>,
     members: &[FieldForm],
 ) -> Result<Option<u64>, TypeFault>
-    ensures ok { (version i : ℕ) → IfOk result (λ at. at ≡ first_redeclared version [] (map (λ (f : FieldForm). declared_as (fields i) f.name false) members.now)) }
+    ensures ok { (version i : ℕ)
+        → IfOk result (λ at. at ≡ first_redeclared version [] (map (λ (f : FieldForm). declared_as (fields i) f.name false) members.now)) }
     ensures err { IfErr result (λ e. e ≡ TypeFault.Memory) }
 {
     seen.clear();
@@ -74,8 +75,11 @@ impl SeenNames {
         name: &NameAt,
         trigger: bool,
     ) -> Result<Option<u64>, TypeFault>
-        ensures ok { (before : List Declared) (i : ℕ) → IsSeen self.old.version before i self.old.structs.keys self.old.items.entries → IfOk result (λ at. at ≡ first_redeclared self.old.version before (declared_as items name.now trigger ∷ [])) }
-        ensures seen { (before : List Declared) (i : ℕ) → IsSeen self.old.version before i self.old.structs.keys self.old.items.entries → IfOk result (λ at. IfNone at (IsSeen self.old.version (before ++ declared_as items name.now trigger ∷ []) i self.new.structs.keys self.new.items.entries)) }
+        ensures ok { (before : List Declared) (i : ℕ) → IsSeen self.old.version before i self.old.structs.keys self.old.items.entries
+            → IfOk result (λ at. at ≡ first_redeclared self.old.version before (declared_as items name.now trigger ∷ [])) }
+        ensures seen { (before : List Declared) (i : ℕ) → IsSeen self.old.version before i self.old.structs.keys self.old.items.entries
+            → IfOk result (λ at. IfNone at (IsSeen self.old.version (before ++ declared_as items name.now trigger ∷ []) i
+            self.new.structs.keys self.new.items.entries)) }
         ensures version { self.new.version ≡ self.old.version }
         ensures err { IfErr result (λ e. e ≡ TypeFault.Memory) }
     {
@@ -90,8 +94,10 @@ impl SeenNames {
 
     // Takes in the names of a declaration, and tells the place of the first that an earlier one forbids.
     fn decl(&mut self, alloc: Global, decl: &Decl) -> Result<Option<u64>, TypeFault>
-        ensures ok { (before : List Declared) (i : ℕ) → IsSeen self.old.version before i self.old.structs.keys self.old.items.entries → IfOk result (λ at. at ≡ first_redeclared self.old.version before (names_of i decl.now)) }
-        ensures seen { (before : List Declared) (i : ℕ) → IsSeen self.old.version before i self.old.structs.keys self.old.items.entries → IfOk result (λ at. IfNone at (IsSeen self.old.version (before ++ names_of i decl.now) (i + 1) self.new.structs.keys self.new.items.entries)) }
+        ensures ok { (before : List Declared) (i : ℕ) → IsSeen self.old.version before i self.old.structs.keys self.old.items.entries
+            → IfOk result (λ at. at ≡ first_redeclared self.old.version before (names_of i decl.now)) }
+        ensures seen { (before : List Declared) (i : ℕ) → IsSeen self.old.version before i self.old.structs.keys self.old.items.entries
+            → IfOk result (λ at. IfNone at (IsSeen self.old.version (before ++ names_of i decl.now) (i + 1) self.new.structs.keys self.new.items.entries)) }
         ensures version { self.new.version ≡ self.old.version }
         ensures err { IfErr result (λ e. e ≡ TypeFault.Memory) }
     {

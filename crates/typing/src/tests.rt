@@ -2,7 +2,7 @@
 ghost use Rattle.std.specs.Prelude.{◌≤◌, IfOk};
 ghost use Rattle.spec_text.specs.Extent.{item_count, list_count, nesting};
 ghost use Rattle.spec_text.specs.Form.{form_of};
-ghost use Rattle.spec_text.specs.Kept.{KeepsTable};
+ghost use Rattle.spec_text.specs.KeepsTable.{KeepsTable};
 
 use crate::{TypeFault, type_all};
 use spec_text::{Surface, declarations, trees};

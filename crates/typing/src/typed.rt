@@ -1,7 +1,7 @@
 // A surface's typed specification.
 ghost use Rattle.std.specs.Prelude.{◌≤◌};
 ghost use Rattle.typing.specs.Typing.{Types};
-ghost use Rattle.spec_text.specs.Kept.{KeepsTable};
+ghost use Rattle.spec_text.specs.KeepsTable.{KeepsTable};
 ghost use Rattle.spec_text.specs.Form.{form_of};
 ghost use Rattle.spec_text.specs.Extent.{list_count, item_count, nesting};
 

@@ -7,6 +7,7 @@ use spec_text::{Decl, Expr, TypeForm};
 use stream_types::Scalar;
 
 /// The place of an expression.
+#[tactic(auto, using(spec_text::specs::FoldRows::expr_rows), unfolding(spec_text::specs::Form::form_of_expr))]
 pub fn place_of(expr: &Expr) -> u64
     ensures { result ≡ place_of expr.now }
 {
@@ -46,6 +47,7 @@ pub fn place_of(expr: &Expr) -> u64
 }
 
 // The first node of a type that isn't built.
+#[tactic(auto, using(spec_text::specs::FoldRows::type_rows), unfolding(crate::specs::Unbuilt::unbuilt_type))]
 fn unbuilt_type(ty: &TypeForm) -> Option<u64>
     ensures { result ≡ unbuilt_type ty.now }
 {

@@ -1,9 +1,9 @@
 use Rattle.std.proofs.Common.{rules, ◌≡◌, ◌+◌, ◌-◌, ◌<◌, suc, Some, sym, ◌∙◌, arith}
 use Rattle.std.specs.List.{find}
-use Rattle.c99_ast.specs.Words.{is_same, word_of, scalars, elem_type}
-use Rattle.c99_ast.specs.Values.{shape_within}
-use Rattle.c99_ast.specs.declared.types.CTy.TheVariants as ty
-use Rattle.c99_ast.proofs.Sizes.{shaped-element, shaped-fields, elem_type-Scalar}
+use Rattle.c99_tree.specs.Words.{is_same, word_of, scalars, elem_type}
+use Rattle.c99_tree.specs.Values.{shape_within}
+use Rattle.c99_tree.specs.declared.types.CTy.TheVariants as ty
+use Rattle.c99_tree.proofs.Shapes.{shaped-element, shaped-fields, elem_type-Scalar}
 use Rattle.c99_ast.proofs.Filled.{left-no_depth, left-no_struct, left-fields_of, left-zero_struct, left-small_array, left-elements, scalar-shape, left-one_more, left-none_more}
 use Rattle.c99_ast.proofs.constants.+filling.Goals as goal
 

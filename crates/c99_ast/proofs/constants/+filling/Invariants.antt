@@ -1,8 +1,8 @@
 use Rattle.std.proofs.Common.{◌≡◌, ◌+◌, ◌*◌, ◌-◌, drop}
 use Rattle.std.specs.Prelude.{IsSome}
-use Rattle.c99_ast.specs.Words.{elem_type}
-use Rattle.c99_ast.specs.Values.{shape_within, shapes_of_fields}
-use Rattle.c99_ast.specs.Filling.{left_of_all, left_of_times}
+use Rattle.c99_tree.specs.Words.{elem_type}
+use Rattle.c99_tree.specs.Values.{shape_within, shapes_of_fields}
+use Rattle.c99_tree.specs.Filling.{left_of_all, left_of_times}
 use Rattle.c99_ast.proofs.constants.+filling.Given as goal
 
 abbrev pub decreases-left_of : goal.decreases-left_of

@@ -1,5 +1,5 @@
 use Rattle.std.proofs.Common.{◌≡◌, ◌+◌, ◌-◌, suc, sym, ◌∙◌, arith}
-use Rattle.c99_ast.specs.Values.{shape_of}
+use Rattle.c99_tree.specs.Values.{shape_of}
 use Rattle.c99_ast.proofs.Filled.{left-one_more, left-none_more}
 use Rattle.c99_ast.proofs.constants.left_of_values.Goals as goal
 

@@ -1,6 +1,6 @@
 use Rattle.std.proofs.Common.{◌≡◌, ◌-◌}
-use Rattle.c99_ast.specs.Values.{shape_of}
-use Rattle.c99_ast.specs.Filling.{left_of_times}
+use Rattle.c99_tree.specs.Values.{shape_of}
+use Rattle.c99_tree.specs.Filling.{left_of_times}
 use Rattle.c99_ast.proofs.constants.left_of_values.Given as goal
 
 abbrev pub invariant-loop-i : goal.invariant-loop-i

@@ -1,8 +1,8 @@
 use Rattle.std.proofs.Common.{◌≡◌, ◌&&◌, length}
 use Rattle.std.specs.Prelude.{nat_eq}
-use Rattle.c99_ast.specs.Words.{is_same}
-use Rattle.c99_ast.specs.Lookup.{arrays_in}
-use Rattle.c99_ast.specs.WellFormed.{are_distinct}
+use Rattle.c99_tree.specs.Words.{is_same}
+use Rattle.c99_tree.specs.Lookup.{arrays_in}
+use Rattle.c99_tree.specs.WellFormed.{are_distinct}
 use Rattle.c99_ast.proofs.definitions.are_distinct_arrays.Given as goal
 
 abbrev pub invariant-loop-left : goal.invariant-loop-left

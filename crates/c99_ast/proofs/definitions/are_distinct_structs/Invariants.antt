@@ -1,7 +1,7 @@
 use Rattle.std.proofs.Common.{◌≡◌, map, length}
-use Rattle.c99_ast.specs.Words.{is_same}
-use Rattle.c99_ast.specs.Lookup.{structs_in}
-use Rattle.c99_ast.specs.WellFormed.{are_distinct}
+use Rattle.c99_tree.specs.Words.{is_same}
+use Rattle.c99_tree.specs.Lookup.{structs_in}
+use Rattle.c99_tree.specs.WellFormed.{are_distinct}
 use Rattle.c99_ast.proofs.definitions.are_distinct_structs.Given as goal
 
 abbrev pub invariant-loop-left : goal.invariant-loop-left

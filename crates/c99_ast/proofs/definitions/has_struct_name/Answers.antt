@@ -1,7 +1,7 @@
 use Rattle.std.proofs.Common.{ℕ, List, sym, ◌∙◌}
-use Rattle.c99_ast.specs.declared.types.CVar.{CVar}
-use Rattle.c99_ast.specs.Words.{is_same}
-use Rattle.c99_ast.specs.Lookup.{structs_in}
+use Rattle.c99_tree.specs.declared.types.CVar.{CVar}
+use Rattle.c99_tree.specs.Words.{is_same}
+use Rattle.c99_tree.specs.Lookup.{structs_in}
 use Rattle.c99_ast.proofs.Parting.{any_map}
 use Rattle.c99_ast.proofs.definitions.has_struct_name.Goals as goal
 

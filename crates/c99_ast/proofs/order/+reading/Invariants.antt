@@ -1,7 +1,7 @@
 use Rattle.std.proofs.Common.{◌≡◌, map, drop}
 use Rattle.std.specs.List.{list_all}
-use Rattle.c99_ast.specs.Tree.{tree, exprs, statement}
-use Rattle.c99_ast.specs.WellFormed.{is_read_after_copy, parts_of_all}
+use Rattle.c99_tree.specs.Tree.{tree, exprs, statement}
+use Rattle.c99_tree.specs.WellFormed.{is_read_after_copy, parts_of_all}
 use Rattle.c99_ast.proofs.order.+reading.Given as goal
 
 abbrev pub invariant-read_copied-loop-e : goal.invariant-read_copied-loop-e

@@ -1,8 +1,8 @@
 use Rattle.std.proofs.Common.{◌≡◌, map, length}
 use Rattle.std.specs.List.{filter_map}
-use Rattle.c99_ast.specs.Tree.{statement}
-use Rattle.c99_ast.specs.Words.{is_same}
-use Rattle.c99_ast.specs.WellFormed.{next_of, are_distinct}
+use Rattle.c99_tree.specs.Tree.{statement}
+use Rattle.c99_tree.specs.Words.{is_same}
+use Rattle.c99_tree.specs.WellFormed.{next_of, are_distinct}
 use Rattle.c99_ast.proofs.order.are_distinct_nexts.Given as goal
 
 abbrev pub invariant-loop-left : goal.invariant-loop-left

@@ -1,7 +1,7 @@
 use Rattle.std.proofs.Common.{◌≡◌, map, drop, take, []}
 use Rattle.std.specs.List.{list_all}
-use Rattle.c99_ast.specs.Tree.{statement}
-use Rattle.c99_ast.specs.WellFormed.{is_read_after_copy, parts_in, each_after}
+use Rattle.c99_tree.specs.Tree.{statement}
+use Rattle.c99_tree.specs.WellFormed.{is_read_after_copy, parts_in, each_after}
 use Rattle.c99_ast.proofs.order.copies_come_first.Given as goal
 
 abbrev pub invariant-loop-i : goal.invariant-loop-i

@@ -1,8 +1,8 @@
 use Rattle.std.proofs.Common.{◌≡◌, drop}
 use Rattle.std.specs.Prelude.{IsTrue, is_some}
 use Rattle.std.specs.List.{list_all}
-use Rattle.c99_ast.specs.Values.{shape_of}
-use Rattle.c99_ast.specs.Rules.{is_filled}
+use Rattle.c99_tree.specs.Values.{shape_of}
+use Rattle.c99_tree.specs.Rules.{is_filled}
 use Rattle.c99_ast.proofs.rules.are_filled.Given as goal
 
 abbrev pub invariant-loop-r : goal.invariant-loop-r

@@ -1,4 +1,4 @@
-use Rattle.c99_ast.proofs.Shaped.{rings_shaped}
+use Rattle.c99_tree.proofs.Shaped.{rings_shaped}
 use Rattle.c99_ast.proofs.rules.has_sound_rings.Goals as goal
 
 pub are_filled-requires : goal.are_filled-requires

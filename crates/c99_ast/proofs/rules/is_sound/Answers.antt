@@ -1,4 +1,4 @@
-use Rattle.c99_ast.proofs.Whole.{declared-types_first}
+use Rattle.c99_tree.proofs.Whole.{declared-types_first}
 use Rattle.c99_ast.proofs.rules.is_sound.Goals as goal
 
 pub has_sound_rings-requires : goal.has_sound_rings-requires

@@ -1,4 +1,4 @@
-use Rattle.c99_ast.proofs.Whole.{sound_is_well}
+use Rattle.c99_tree.proofs.Whole.{sound_is_well}
 use Rattle.c99_ast.proofs.rules.well_formed.Goals as goal
 
 pub returns : goal.returns

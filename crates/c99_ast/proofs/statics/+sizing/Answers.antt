@@ -1,9 +1,10 @@
 use Rattle.std.proofs.Common.{rules, ◌≡◌, ◌+◌, ◌∙◌, ap, sym, arith, Some}
 use Rattle.c99_ast.specs.Bound.{up_to_bound}
-use Rattle.c99_ast.specs.declared.types.CTy.TheVariants as ty
-use Rattle.c99_ast.proofs.Sizes.{size-Scalar, shaped-element, size-Array, bound-times, size-Struct, shaped-fields, size-no_struct, size-no_depth, elem_type-Scalar}
+use Rattle.c99_tree.specs.declared.types.CTy.TheVariants as ty
+use Rattle.c99_tree.proofs.Shapes.{shaped-element, shaped-fields, elem_type-Scalar}
+use Rattle.c99_ast.proofs.Sizes.{size-Scalar, size-Array, bound-times, size-Struct, size-no_struct, size-no_depth}
 use Rattle.std.specs.List.{find}
-use Rattle.c99_ast.specs.Words.{is_same, word_of, scalars, elem_type}
+use Rattle.c99_tree.specs.Words.{is_same, word_of, scalars, elem_type}
 use Rattle.c99_ast.proofs.statics.+sizing.Goals as goal
 
 pub size_of-size_of_element-requires : goal.size_of-size_of_element-requires

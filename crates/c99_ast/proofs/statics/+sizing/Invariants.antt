@@ -1,8 +1,8 @@
 use Rattle.std.proofs.Common.{◌≡◌, ◌+◌, ◌*◌, ◌≤◌, drop}
 use Rattle.std.specs.Prelude.{IsSome}
 use Rattle.c99_ast.specs.Bound.{up_to_bound}
-use Rattle.c99_ast.specs.Values.{shape_within, shapes_of_fields}
-use Rattle.c99_ast.specs.Storage.{sizes_or_none}
+use Rattle.c99_tree.specs.Values.{shape_within, shapes_of_fields}
+use Rattle.c99_tree.specs.Storage.{sizes_or_none}
 use Rattle.c99_ast.proofs.statics.+sizing.Given as goal
 
 abbrev pub decreases-size_of : goal.decreases-size_of

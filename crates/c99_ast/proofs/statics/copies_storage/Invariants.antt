@@ -2,8 +2,8 @@ use Rattle.std.proofs.Common.{◌≡◌, drop, take}
 use Rattle.std.specs.Prelude.{IsTrue, is_some}
 use Rattle.std.specs.List.{list_all, sum_by}
 use Rattle.c99_ast.specs.Bound.{up_to_bound}
-use Rattle.c99_ast.specs.Values.{shape_of}
-use Rattle.c99_ast.specs.Storage.{copy_storage}
+use Rattle.c99_tree.specs.Values.{shape_of}
+use Rattle.c99_tree.specs.Storage.{copy_storage}
 use Rattle.c99_ast.proofs.statics.copies_storage.Given as goal
 
 abbrev pub invariant-loop-x : goal.invariant-loop-x

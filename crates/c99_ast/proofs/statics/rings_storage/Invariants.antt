@@ -2,8 +2,8 @@ use Rattle.std.proofs.Common.{◌≡◌, drop, take}
 use Rattle.std.specs.Prelude.{IsTrue, is_some}
 use Rattle.std.specs.List.{list_all, sum_by}
 use Rattle.c99_ast.specs.Bound.{up_to_bound}
-use Rattle.c99_ast.specs.Values.{shape_of}
-use Rattle.c99_ast.specs.Storage.{ring_storage}
+use Rattle.c99_tree.specs.Values.{shape_of}
+use Rattle.c99_tree.specs.Storage.{ring_storage}
 use Rattle.c99_ast.proofs.statics.rings_storage.Given as goal
 
 abbrev pub invariant-loop-r : goal.invariant-loop-r

@@ -1,4 +1,4 @@
-use Rattle.c99_ast.proofs.Shaped.{rings_shaped, externs_shaped}
+use Rattle.c99_tree.proofs.Shaped.{rings_shaped, externs_shaped}
 use Rattle.c99_ast.proofs.statics.storage.Goals as goal
 
 pub rings_storage-requires : goal.rings_storage-requires

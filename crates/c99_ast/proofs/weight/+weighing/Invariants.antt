@@ -1,7 +1,7 @@
 use Rattle.std.proofs.Common.{◌≡◌, ◌+◌, ◌≤◌, map, drop}
 use Rattle.c99_ast.specs.Bound.{up_to_bound}
-use Rattle.c99_ast.specs.Tree.{tree, exprs}
-use Rattle.c99_ast.specs.Weight.{weights}
+use Rattle.c99_tree.specs.Tree.{tree, exprs}
+use Rattle.c99_tree.specs.Weight.{weights}
 use Rattle.c99_ast.proofs.weight.+weighing.Given as goal
 
 abbrev pub invariant-weights-loop-e : goal.invariant-weights-loop-e

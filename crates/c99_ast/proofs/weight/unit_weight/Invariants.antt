@@ -1,8 +1,8 @@
 use Rattle.std.proofs.Common.{◌≡◌, map, take}
 use Rattle.std.specs.List.{sum_by}
 use Rattle.c99_ast.specs.Bound.{up_to_bound}
-use Rattle.c99_ast.specs.Tree.{statement}
-use Rattle.c99_ast.specs.Weight.{statement_weight}
+use Rattle.c99_tree.specs.Tree.{statement}
+use Rattle.c99_tree.specs.Weight.{statement_weight}
 use Rattle.c99_ast.proofs.weight.unit_weight.Given as goal
 
 abbrev pub invariant-loop-s : goal.invariant-loop-s

@@ -1,9 +1,9 @@
 use Rattle.std.proofs.Common.{rules}
-use Rattle.c99_print.proofs.Going.{Goes-failed, Goes-done}
+use Rattle.sm_print.proofs.Printing.{Prints-written}
 use Rattle.c99_print.proofs.header.print_header.Goals as goal
 
-pub returns-then-printer : goal.returns-then-printer
-returns-then-printer g c = let h = Goes-failed c.header.ensures.bytes c.if-printer.true in record { text = search (rules, h) }
-
-pub returns-else-printer : goal.returns-else-printer
-returns-else-printer g c = let h = Goes-done c.header.ensures.bytes c.if-printer.false in record { text = search (rules, h) }
+pub returns : goal.returns
+returns g c =
+    let h = Prints-written c.new-printer.ensures.starts c.header_lines.ensures c.outcome.ensures in
+    let same = c.header_lines.ensures.same in
+    record { text = search (rules, h) }

@@ -1,4 +1,4 @@
-use Rattle.extern_rows.proofs.Standing.{stands_in_texts, cuts_anywhere, moves_on}
+use Rattle.extern_rows.proofs.FeedStanding.{stands_in_texts, cuts_anywhere, moves_on}
 use Rattle.extern_rows.proofs.feed.stands_in_texts.Goals as goal
 
 pub returns : goal.returns

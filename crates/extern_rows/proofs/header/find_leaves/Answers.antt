@@ -3,7 +3,7 @@ use Rattle.std.proofs.lemmas.Result.{err_from_is_err_and}
 use Rattle.csv.specs.Records.{fields_of}
 use Rattle.extern_rows.specs.Fields.{trimmed}
 use Rattle.extern_rows.specs.Columns.{column_of, wanted_at, wanted_from}
-use Rattle.extern_rows.specs.Reads.{behind}
+use Rattle.extern_rows.specs.LeafReading.{behind}
 use Rattle.extern_rows.specs.declared.header.Wanted.{Wanted}
 use Rattle.extern_rows.proofs.Cells.{leaf_found, leaf_missed, reads_missed}
 use Rattle.extern_rows.proofs.header.find_leaves.Goals as goal

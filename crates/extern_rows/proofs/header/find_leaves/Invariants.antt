@@ -2,7 +2,7 @@ use Rattle.std.proofs.Common.{◌≡◌, drop, map, length}
 use Rattle.csv.specs.Records.{fields_of}
 use Rattle.extern_rows.specs.Fields.{trimmed}
 use Rattle.extern_rows.specs.Columns.{wanted_from}
-use Rattle.extern_rows.specs.Reads.{behind}
+use Rattle.extern_rows.specs.LeafReading.{behind}
 use Rattle.extern_rows.proofs.header.find_leaves.Given as goal
 
 abbrev pub invariant-loop-number : goal.invariant-loop-number

@@ -5,7 +5,7 @@ use Rattle.csv.specs.Records.{fields_of}
 use Rattle.extern_rows.specs.declared.header.Column.{Column}
 use Rattle.extern_rows.specs.Fields.{trimmed}
 use Rattle.extern_rows.specs.Columns.{column_of}
-use Rattle.extern_rows.specs.Reads.{seen_at}
+use Rattle.extern_rows.specs.LeafReading.{seen_at}
 use Rattle.extern_rows.proofs.Cells.{column_more, names_more, length-names}
 use Rattle.extern_rows.proofs.header.index_columns.Goals as goal
 

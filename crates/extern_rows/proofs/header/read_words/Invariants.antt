@@ -1,7 +1,7 @@
 use Rattle.std.proofs.Common.{◌≡◌, drop, take}
 use Rattle.csv.specs.Records.{fields_of}
 use Rattle.extern_rows.specs.Columns.{words_from}
-use Rattle.extern_rows.specs.Reads.{behind}
+use Rattle.extern_rows.specs.LeafReading.{behind}
 use Rattle.extern_rows.proofs.header.read_words.Given as goal
 
 abbrev pub invariant-loop-number : goal.invariant-loop-number

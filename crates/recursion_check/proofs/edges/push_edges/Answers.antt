@@ -1,7 +1,7 @@
 use Rattle.std.proofs.Common.{◌≡◌, ◌+◌, ◌-◌, ◌<◌, ◌++◌, [], ◌∷◌, length, map, Some, refl, ◌∙◌, sym, ap, subst, arith}
 use Rattle.std.specs.Prelude.{slice_get, OnOk}
 use Rattle.std.proofs.lemmas.Option.{slice_get_read}
-use Rattle.stream_core.proofs.Rings.{exprs_there}
+use Rattle.stream_core.proofs.Cycles.{exprs_there}
 use Rattle.recursion_check.specs.Graph.{node_next}
 use Rattle.recursion_check.specs.Walked.{edge}
 use Rattle.recursion_check.proofs.Places.{next_def, next_node}

@@ -5,7 +5,7 @@ use Rattle.std.proofs.lemmas.Option.{slice_get_read}
 use Rattle.stream_core.specs.declared.spec.LibItem.{LibItem}
 use Rattle.stream_core.specs.Weights.{heavy, heaviest_buffer}
 use Rattle.recursion_check.specs.Loads.{first_form}
-use Rattle.recursion_check.proofs.Lists.{drop_get}
+use Rattle.recursion_check.proofs.ListElements.{drop_get}
 use Rattle.recursion_check.proofs.roots.heavy_form.Goals as goal
 
 pub returns-then-buffer_weight-gt-MOST : goal.returns-then-buffer_weight-gt-MOST

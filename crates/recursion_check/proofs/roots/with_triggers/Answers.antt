@@ -4,7 +4,7 @@ use Rattle.std.proofs.lemmas.Option.{slice_get_read}
 use Rattle.stream_core.specs.Weights.{heavy}
 use Rattle.recursion_check.specs.Walked.{lesser}
 use Rattle.recursion_check.specs.Loads.{least_heavy, roots_of, triggers_of}
-use Rattle.recursion_check.proofs.Lists.{drop_get}
+use Rattle.recursion_check.proofs.ListElements.{drop_get}
 use Rattle.recursion_check.proofs.Heavy.{least_append}
 use Rattle.recursion_check.proofs.roots.with_triggers.Goals as goal
 

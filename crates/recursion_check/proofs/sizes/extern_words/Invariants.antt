@@ -1,5 +1,5 @@
 use Rattle.std.proofs.Common.{◌≡◌, ◌+◌, ◌≤◌, min, drop}
-use Rattle.recursion_check.specs.Sizes.{externs_words}
+use Rattle.recursion_check.specs.Counted.{externs_words}
 use Rattle.recursion_check.proofs.sizes.extern_words.Given as goal
 
 abbrev pub invariant-loop-x : goal.invariant-loop-x

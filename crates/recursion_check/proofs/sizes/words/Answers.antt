@@ -1,5 +1,5 @@
 use Rattle.std.proofs.Common.{◌≡◌, ◌+◌, min, ◌∙◌, sym, ap, arith}
-use Rattle.recursion_check.specs.Sizes.{streams_words, libs_words, externs_words}
+use Rattle.recursion_check.specs.Counted.{streams_words, libs_words, externs_words}
 use Rattle.recursion_check.proofs.Counting.{words_are}
 use Rattle.recursion_check.proofs.sizes.words.Goals as goal
 

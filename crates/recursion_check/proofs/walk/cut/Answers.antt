@@ -3,7 +3,7 @@ use Rattle.std.specs.Prelude.{slice_get}
 use Rattle.std.proofs.lemmas.List.{length_push}
 use Rattle.recursion_check.specs.Graph.{Has}
 use Rattle.recursion_check.specs.Walked.{Rising}
-use Rattle.recursion_check.proofs.Lists.{at_most_last, empty_last, has_left, has_pushed, pop_last, rising_front}
+use Rattle.recursion_check.proofs.ListElements.{at_most_last, empty_last, has_left, has_pushed, pop_last, rising_front}
 use Rattle.recursion_check.proofs.walk.cut.Goals as goal
 
 pub returns-then-start-place : goal.returns-then-start-place

@@ -40,7 +40,7 @@ use Rattle.std.proofs.VecSteps.Shapes.{after}
 use Rattle.std.proofs.alloc.Calls.{Al, token, gives_key, Gives, at_gives, Gives-goes, Gives-Gives, Goes-blank}
 use Rattle.ring_bank.specs.Ownership.{room, words_owned, deed_owned}
 use Rattle.ring_bank.proofs.Blocks.{args, P, Dd, mark, word_had, mark_had, block_ty, block_size, block_align}
-use Rattle.ring_bank.proofs.Steps.{row_room}
+use Rattle.ring_bank.proofs.CellWalks.{row_room}
 use Rattle.ring_bank.specs.contracts.words.Words as W
 use Rattle.ring_bank.specs.contracts.memory.deallocate as F
 use Rattle.ring_bank.specs.contracts.memory.deallocate.Key.{name as #self}

@@ -1,5 +1,5 @@
 use Rattle.std.proofs.Common.{◌≡◌, ◌+◌, ◌++◌, ◌≤◌, drop}
-use Rattle.ring_bank.specs.Rows.{words_of}
+use Rattle.ring_bank.specs.RingRows.{words_of}
 use Rattle.ring_bank.specs.Layout.{rings_from}
 use Rattle.ring_bank.proofs.ring.lay_out.Given as goal
 

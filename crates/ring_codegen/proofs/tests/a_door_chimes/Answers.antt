@@ -1,5 +1,5 @@
 use Rattle.std.proofs.Common.{codes}
-use Rattle.ring_codegen.specs.Rows.{door}
+use Rattle.ring_codegen.specs.WorkedSpecs.{door}
 use Rattle.ring_codegen.proofs.Fitting.{asked_by, door_asked}
 use Rattle.ring_codegen.proofs.tests.a_door_chimes.Goals as goal
 

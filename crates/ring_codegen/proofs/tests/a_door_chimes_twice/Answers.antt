@@ -1,5 +1,5 @@
 use Rattle.std.proofs.Common.{codes}
-use Rattle.ring_codegen.specs.Rows.{doors}
+use Rattle.ring_codegen.specs.WorkedSpecs.{doors}
 use Rattle.ring_codegen.proofs.Fitting.{asked_by, doors_asked}
 use Rattle.ring_codegen.proofs.tests.a_door_chimes_twice.Goals as goal
 

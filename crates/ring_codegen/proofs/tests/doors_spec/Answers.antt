@@ -1,7 +1,7 @@
 use Rattle.std.proofs.Common.{codes, ◌∙◌, lit<}
 use Rattle.stream_core.specs.declared.spec.Item.TheVariants as item
 use Rattle.stream_core.specs.Stored.{with_item}
-use Rattle.ring_codegen.specs.Rows.{bare, bare_trigger, door}
+use Rattle.ring_codegen.specs.WorkedSpecs.{bare, bare_trigger, door}
 use Rattle.ring_codegen.proofs.Fitting.{room}
 use Rattle.ring_codegen.proofs.tests.doors_spec.Goals as goal
 

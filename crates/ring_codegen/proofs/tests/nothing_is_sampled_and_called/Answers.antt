@@ -1,5 +1,5 @@
 use Rattle.std.proofs.Common.{codes}
-use Rattle.ring_codegen.specs.Rows.{empty}
+use Rattle.ring_codegen.specs.WorkedSpecs.{empty}
 use Rattle.ring_codegen.proofs.Fitting.{asked_by, empty_asked}
 use Rattle.ring_codegen.proofs.tests.nothing_is_sampled_and_called.Goals as goal
 

@@ -1,4 +1,4 @@
-use Rattle.spec_forest.proofs.Reading.{pieces-tokens, pieces-sound}
+use Rattle.spec_forest.proofs.PiecesRead.{pieces-tokens, pieces-sound}
 use Rattle.spec_forest.proofs.laws.pieces_are_read.Goals as goal
 
 pub returns : goal.returns

@@ -1,7 +1,7 @@
 use Rattle.std.proofs.Common.{ℕ, List, sym, subst, arith}
 use Rattle.spec_forest.specs.Tokens.{Token}
-use Rattle.spec_forest.specs.Scanning.{Stands, held}
-use Rattle.spec_forest.proofs.Stands.{stands-start}
+use Rattle.spec_forest.specs.Scanning.{IsScanned, held}
+use Rattle.spec_forest.proofs.ScanSteps.{scanned-start}
 use Rattle.spec_forest.proofs.Faults.{too-long}
 use Rattle.spec_forest.proofs.Answered.{Answered, finished-at}
 use Rattle.spec_forest.proofs.scan.trees.Goals as goal
@@ -11,11 +11,11 @@ returns-then-text-gt-LONGEST_TEXT-clause-fault c = too-long c.args.text.now c.if
 
 pub loop-at-init : goal.loop-at-init
 loop-at-init c =
-    let P : ℕ → Type 0 = λ d. Stands c.args.text.now 0 d (held c.new-scanner.result) in
-    let Q : List Token → Type 0 = λ ts. Stands c.args.text.now 0 0 ts in (
+    let P : ℕ → Type 0 = λ d. IsScanned c.args.text.now 0 d (held c.new-scanner.result) in
+    let Q : List Token → Type 0 = λ ts. IsScanned c.args.text.now 0 0 ts in (
       c.if-text-gt-LONGEST_TEXT.false,
       omega (arith, c.new-scanner.ensures.levels),
-      subst P (sym c.new-scanner.ensures.levels) (subst Q (sym c.new-scanner.ensures.held) (stands-start c.args.text.now)),
+      subst P (sym c.new-scanner.ensures.levels) (subst Q (sym c.new-scanner.ensures.held) (scanned-start c.args.text.now)),
     )
 
 answered : (c : goal.After-finish) → Answered c.args.text.now c.finish.result

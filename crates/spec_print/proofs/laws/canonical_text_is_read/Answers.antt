@@ -1,6 +1,6 @@
 use Rattle.spec_forest.specs.Node.{forest_nodes}
 use Rattle.spec_print.proofs.Scanned.{scanned, forested, shaped, same-form, same-text}
-use Rattle.spec_print.proofs.KeptFits.{fits}
+use Rattle.spec_text.proofs.KeptFits.{fits}
 use Rattle.spec_print.proofs.laws.canonical_text_is_read.Goals as goal
 
 pub returns-clause-sound : goal.returns-clause-sound

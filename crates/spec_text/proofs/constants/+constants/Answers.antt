@@ -2,11 +2,11 @@ use Rattle.std.proofs.Common.{sym, ap, arith, map}
 use Rattle.std.specs.Option.{option_map}
 use Rattle.spec_forest.specs.Node.{node, nodes}
 use Rattle.spec_text.specs.Form.{form_of_const}
-use Rattle.spec_text.specs.Kept.{keeps_const}
+use Rattle.spec_text.specs.KeepsTable.{keeps_const}
 use Rattle.spec_text.specs.Shape.{constant, const_items}
-use Rattle.spec_text.specs.Words.{const_word}
+use Rattle.spec_words.specs.Words.{const_word}
 use Rattle.spec_text.proofs.Along.{step}
-use Rattle.spec_text.proofs.Found.{found_const}
+use Rattle.spec_words.proofs.WordLaws.{found_const}
 use Rattle.spec_text.proofs.Heads.{whole_const}
 use Rattle.spec_text.proofs.Measures.{size-part}
 use Rattle.spec_text.proofs.constants.+constants.Goals as goal

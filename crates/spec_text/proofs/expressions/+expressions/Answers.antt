@@ -2,11 +2,11 @@ use Rattle.std.proofs.Common.{sym, ap, arith, map}
 use Rattle.std.specs.Option.{option_map}
 use Rattle.spec_forest.specs.Node.{node, nodes}
 use Rattle.spec_text.specs.Form.{form_of_expr}
-use Rattle.spec_text.specs.Kept.{keeps_expr}
+use Rattle.spec_text.specs.KeepsTable.{keeps_expr}
 use Rattle.spec_text.specs.Shape.{expression, expr_items}
-use Rattle.spec_text.specs.Words.{head_word}
+use Rattle.spec_words.specs.Words.{head_word}
 use Rattle.spec_text.proofs.Along.{step}
-use Rattle.spec_text.proofs.Found.{found_head}
+use Rattle.spec_words.proofs.WordLaws.{found_head}
 use Rattle.spec_text.proofs.Heads.{whole_expr}
 use Rattle.spec_text.proofs.Measures.{size-part}
 use Rattle.spec_text.proofs.expressions.+expressions.Goals as goal

@@ -1,7 +1,7 @@
 use Rattle.std.proofs.Common.{◌+◌, map}
 use Rattle.spec_forest.specs.Node.{node, nodes}
 use Rattle.spec_text.specs.Form.{form_of_expr}
-use Rattle.spec_text.specs.Kept.{keeps_expr}
+use Rattle.spec_text.specs.KeepsTable.{keeps_expr}
 use Rattle.spec_text.specs.Shape.{expression}
 use Rattle.spec_text.proofs.Along.{Along}
 use Rattle.spec_text.proofs.Measures.{size, sizes}

@@ -2,10 +2,10 @@ use Rattle.std.proofs.Common.{sym, ap, map}
 use Rattle.std.specs.Option.{option_map}
 use Rattle.spec_forest.specs.Node.{node, nodes}
 use Rattle.spec_text.specs.Form.{form_of_decl}
-use Rattle.spec_text.specs.Kept.{keeps_decl}
+use Rattle.spec_text.specs.KeepsTable.{keeps_decl}
 use Rattle.spec_text.specs.Shape.{decl_items}
-use Rattle.spec_text.specs.Words.{decl_word}
-use Rattle.spec_text.proofs.Found.{found_decl}
+use Rattle.spec_words.specs.Words.{decl_word}
+use Rattle.spec_words.proofs.WordLaws.{found_decl}
 use Rattle.spec_text.proofs.Heads.{whole_decl}
 use Rattle.spec_text.proofs.specification.decl_list.Goals as goal
 

@@ -1,5 +1,5 @@
 use Rattle.spec_text.specs.Form.{form_of_decl}
-use Rattle.spec_text.specs.Kept.{keeps_decl}
+use Rattle.spec_text.specs.KeepsTable.{keeps_decl}
 use Rattle.spec_text.specs.Shape.{declaration}
 use Rattle.spec_text.proofs.Along.{Along}
 use Rattle.spec_text.proofs.specification.read_decls.Given as goal

@@ -1,5 +1,5 @@
 use Rattle.spec_text.specs.Form.{form_of_field}
-use Rattle.spec_text.specs.Kept.{keeps_field}
+use Rattle.spec_text.specs.KeepsTable.{keeps_field}
 use Rattle.spec_text.specs.Shape.{field}
 use Rattle.spec_text.proofs.Along.{step}
 use Rattle.spec_text.proofs.specification.read_fields.Goals as goal

@@ -1,9 +1,10 @@
 use Rattle.std.proofs.Common.{sym, ap, map}
 use Rattle.std.specs.Option.{option_map}
 use Rattle.spec_forest.specs.Node.{node, nodes}
-use Rattle.spec_text.specs.Form.{spec_word}
+use Rattle.spec_words.specs.Words.{spec_word}
 use Rattle.spec_text.specs.Shape.{spec_items}
-use Rattle.spec_text.proofs.Heads.{whole_top, version_word}
+use Rattle.spec_text.proofs.Heads.{whole_top}
+use Rattle.spec_words.proofs.WordLaws.{found_version}
 use Rattle.spec_text.proofs.specification.spec_list.Goals as goal
 
 pub returns : goal.returns
@@ -13,5 +14,5 @@ returns c =
     whole_top c.args.at (nodes (map node c.args.items.now)) parts c.in-Some.word.now (spec_word version) (spec_items version) c.read_body.result
     (sym c.in-Some.ensures)
     (ap (option_map spec_items) (sym c.in-Some-version_of.ensures.version))
-    (version_word c.in-Some.word.now version (sym c.in-Some-version_of.ensures.version))
+    (found_version c.in-Some.word.now version (sym c.in-Some-version_of.ensures.version))
     c.read_body.ensures

@@ -1,5 +1,5 @@
 use Rattle.stream_core.specs.Meaning.{closed_spec}
-use Rattle.stream_core.proofs.Steps.{table_ok, steps_ok}
+use Rattle.stream_core.proofs.CleanSteps.{table_ok, steps_ok}
 use Rattle.stream_core.proofs.laws.clean_histories_have_tables.Goals as goal
 
 pub returns : goal.returns

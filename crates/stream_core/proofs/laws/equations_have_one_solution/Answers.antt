@@ -1,6 +1,6 @@
 use Rattle.stream_core.specs.Meaning.{closed_spec}
 use Rattle.stream_core.proofs.Unique.{unique}
-use Rattle.stream_core.proofs.Reading.{bounded}
+use Rattle.stream_core.proofs.Reach.{bounded}
 use Rattle.stream_core.proofs.laws.equations_have_one_solution.Goals as goal
 
 pub returns-clause-typed : goal.returns-clause-typed

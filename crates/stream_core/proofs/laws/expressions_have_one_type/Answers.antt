@@ -1,4 +1,4 @@
-use Rattle.stream_core.proofs.Typing.{one_type}
+use Rattle.stream_core.proofs.OneType.{one_type}
 use Rattle.stream_core.proofs.laws.expressions_have_one_type.Goals as goal
 
 pub returns : goal.returns

@@ -1,5 +1,5 @@
 use Rattle.stream_core.specs.Meaning.{closed_spec}
-use Rattle.stream_core.proofs.Handled.{handlers_once, handler_named}
+use Rattle.stream_core.proofs.Handled.{handlers_once, handler_named, handler_from}
 use Rattle.stream_core.proofs.laws.handlers_are_named_once.Goals as goal
 
 pub returns-clause-once : goal.returns-clause-once
@@ -7,3 +7,6 @@ returns-clause-once c = λ s i j name e f. handlers_once (closed_spec s) i j nam
 
 pub returns-clause-named : goal.returns-clause-named
 returns-clause-named c = λ s i x e. handler_named (closed_spec s) i x e
+
+pub returns-clause-only : goal.returns-clause-only
+returns-clause-only c = λ s i name e. let x = handler_from (closed_spec s) i name e in (x.place, x.item, x.is, x.named)

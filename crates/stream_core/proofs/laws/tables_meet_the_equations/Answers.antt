@@ -1,6 +1,6 @@
 use Rattle.stream_core.specs.Meaning.{closed_spec}
 use Rattle.stream_core.proofs.Tables.{meets}
-use Rattle.stream_core.proofs.Reading.{bounded}
+use Rattle.stream_core.proofs.Reach.{bounded}
 use Rattle.stream_core.proofs.laws.tables_meet_the_equations.Goals as goal
 
 pub returns-clause-typed : goal.returns-clause-typed

@@ -1,4 +1,4 @@
-use Rattle.stream_core.proofs.Rings.{well_founded}
+use Rattle.stream_core.proofs.Cycles.{well_founded}
 use Rattle.stream_core.proofs.laws.well_typed_specs_have_trees.Goals as goal
 
 pub returns : goal.returns

@@ -4,7 +4,7 @@ use Rattle.std.specs.Vec.{with_items}
 use Rattle.std.proofs.lemmas.List.{with_items_is}
 use Rattle.extern_rows.specs.Lines.{longest_line, first_line}
 use Rattle.extern_rows.specs.Feeding.{Feeding}
-use Rattle.extern_rows.specs.Limits.{fault_of}
+use Rattle.extern_rows.specs.FeedLimits.{fault_of}
 use Rattle.extern_rows.proofs.Feeds.{text_of, some_bytes, kept, push_past_count, push_past_length, push_in_room}
 use Rattle.extern_rows.proofs.feed.Feed.push.Goals as goal
 

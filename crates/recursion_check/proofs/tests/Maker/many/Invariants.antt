@@ -1,5 +1,5 @@
 use Rattle.std.proofs.Common.{◌≡◌}
-use Rattle.recursion_check.specs.Worked.{many}
+use Rattle.recursion_check.specs.TestSpecs.{many}
 use Rattle.recursion_check.proofs.tests.Maker.many.Given as goal
 
 abbrev pub invariant-loop-k : goal.invariant-loop-k

@@ -1,5 +1,5 @@
 use Rattle.std.proofs.Common.{◌≡◌}
-use Rattle.recursion_check.specs.Worked.{sums}
+use Rattle.recursion_check.specs.TestSpecs.{sums}
 use Rattle.recursion_check.proofs.tests.Maker.sums.Given as goal
 
 abbrev pub invariant-loop-k : goal.invariant-loop-k

@@ -1,7 +1,7 @@
 use Rattle.std.proofs.Common.{◌≡◌, ◌-◌, length, Some, None, ◌∙◌, sym, ap, subst, arith}
 use Rattle.std.specs.Prelude.{slice_get}
 use Rattle.std.proofs.lemmas.Option.{slice_get_read}
-use Rattle.recursion_check.proofs.Lists.{at_most_last, empty_last}
+use Rattle.recursion_check.proofs.ListElements.{at_most_last, empty_last}
 use Rattle.recursion_check.proofs.Places.{joins_there}
 use Rattle.recursion_check.proofs.Turns.{none_left, one_left, path_empty, reached_by}
 use Rattle.recursion_check.proofs.walk.Walk.advance.Goals as goal

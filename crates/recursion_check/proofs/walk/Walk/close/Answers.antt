@@ -5,7 +5,7 @@ use Rattle.std.proofs.lemmas.Option.{slice_get_within}
 use Rattle.recursion_check.specs.declared.walk.Mark.TheVariants as mark
 use Rattle.recursion_check.specs.Graph.{Has}
 use Rattle.recursion_check.specs.Walked.{IsWalk, StaysOld, fresh, mark_all, least_def}
-use Rattle.recursion_check.proofs.Lists.{pop_last, split_last, has_push, get_drop}
+use Rattle.recursion_check.proofs.ListElements.{pop_last, split_last, has_push, get_drop}
 use Rattle.recursion_check.proofs.Places.{no_loop}
 use Rattle.recursion_check.proofs.Closing.{closed_walk, close_old, close_fresh}
 use Rattle.recursion_check.proofs.walk.Walk.close.Goals as goal

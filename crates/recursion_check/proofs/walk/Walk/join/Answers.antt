@@ -1,6 +1,6 @@
 use Rattle.std.proofs.Common.{arith, subst}
 use Rattle.recursion_check.specs.Walked.{IsWalk}
-use Rattle.recursion_check.proofs.Lists.{pop_last}
+use Rattle.recursion_check.proofs.ListElements.{pop_last}
 use Rattle.recursion_check.proofs.Walking.{join_walk}
 use Rattle.recursion_check.proofs.walk.Walk.join.Goals as goal
 

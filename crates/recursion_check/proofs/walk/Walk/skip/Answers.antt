@@ -1,4 +1,4 @@
-use Rattle.recursion_check.proofs.Lists.{pop_last}
+use Rattle.recursion_check.proofs.ListElements.{pop_last}
 use Rattle.recursion_check.proofs.Walking.{skip_walk}
 use Rattle.std.proofs.Common.{arith, subst}
 use Rattle.recursion_check.specs.Walked.{IsWalk}

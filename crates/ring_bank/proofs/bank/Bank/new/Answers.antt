@@ -1,6 +1,6 @@
 use Rattle.std.proofs.Common.{arith, ap₂, ◌∙◌, subst}
 use Rattle.ring_bank.specs.Layout.{rings_in, Laid}
-use Rattle.ring_bank.proofs.Rings.{rings_from-Laid, rings_in-rings_from}
+use Rattle.ring_bank.proofs.RingsInBlock.{rings_from-Laid, rings_in-rings_from}
 use Rattle.ring_bank.proofs.bank.Bank.new.Goals as goal
 
 pub invariant_of-result : goal.invariant_of-result

@@ -1,7 +1,7 @@
 use Rattle.std.proofs.Common.{arith, ap, ap₂, length, set, ◌∙◌}
 use Rattle.ring_bank.specs.Layout.{rings_in, written}
-use Rattle.ring_bank.proofs.Rings.{in_rings, fits, pushes, placed, placed_in, turned-Laid}
-use Rattle.ring_bank.proofs.Rows.{length-written}
+use Rattle.ring_bank.proofs.RingsInBlock.{in_rings, fits, pushes, placed, placed_in, turned-Laid}
+use Rattle.ring_bank.proofs.RowsInWords.{length-written}
 use Rattle.ring_bank.proofs.bank.Bank.push.Goals as goal
 
 pub index_mut-ring-requires : goal.index_mut-ring-requires

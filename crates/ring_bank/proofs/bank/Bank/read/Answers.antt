@@ -1,5 +1,5 @@
 use Rattle.std.proofs.Common.{◌+◌, arith, ap, get_or, ◌∙◌}
-use Rattle.ring_bank.proofs.Rings.{in_rings, rows-are, words-are, reads, placed_in}
+use Rattle.ring_bank.proofs.RingsInBlock.{in_rings, rows-are, words-are, reads, placed_in}
 use Rattle.ring_bank.proofs.bank.Bank.read.Goals as goal
 
 pub index-ring-requires : goal.index-ring-requires

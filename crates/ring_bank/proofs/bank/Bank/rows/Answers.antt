@@ -1,5 +1,5 @@
 use Rattle.std.proofs.Common.{arith, sym}
-use Rattle.ring_bank.proofs.Rings.{in_rings, rows-are}
+use Rattle.ring_bank.proofs.RingsInBlock.{in_rings, rows-are}
 use Rattle.ring_bank.proofs.bank.Bank.rows.Goals as goal
 
 pub index-requires : goal.index-requires

@@ -1,5 +1,5 @@
 use Rattle.std.proofs.Common.{◌+◌, set, get_or, ap, ◌∙◌}
-use Rattle.ring_bank.proofs.Rows.{written_more}
+use Rattle.ring_bank.proofs.RowsInWords.{written_more}
 use Rattle.ring_bank.proofs.block.Block.put.Goals as goal
 
 pub loop-i-preserved : goal.loop-i-preserved

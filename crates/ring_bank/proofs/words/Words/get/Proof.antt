@@ -28,7 +28,7 @@ use denote.Triple.Walked.{Stays, walk_of, says, stay_dropped, Goes-dropped, ends
 use Rattle.std.proofs.raw_atomic.Walks.{proved}
 use Rattle.std.proofs.VecSteps.Shapes.{after}
 use Rattle.ring_bank.specs.Ownership.{words_lent}
-use Rattle.ring_bank.proofs.Steps.{rest, cell_out, cell_back, pointer_in, pointer_out}
+use Rattle.ring_bank.proofs.CellWalks.{rest, cell_out, cell_back, pointer_in, pointer_out}
 use Rattle.ring_bank.specs.contracts.words.Words.get as f
 use Rattle.ring_bank.specs.contracts.words.Words as C
 use Rattle.ring_bank.proofs.words.Words.get.Statement.{statement}

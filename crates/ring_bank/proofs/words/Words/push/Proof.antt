@@ -26,7 +26,7 @@ use denote.Triple.Walked.{Stays, walk_of, says, stay_ref, stay_dropped, Goes-ref
 use Rattle.std.proofs.raw_atomic.Walks.{proved}
 use Rattle.std.proofs.VecSteps.Shapes.{after}
 use Rattle.ring_bank.specs.Ownership.{words_owned, room}
-use Rattle.ring_bank.proofs.Steps.{room_out, row_more}
+use Rattle.ring_bank.proofs.CellWalks.{room_out, row_more}
 use Rattle.ring_bank.specs.contracts.words.Words.push as f
 use Rattle.ring_bank.specs.contracts.words.Words.{the_row as R}
 use Rattle.ring_bank.proofs.words.Words.TheLaws.{lowers}

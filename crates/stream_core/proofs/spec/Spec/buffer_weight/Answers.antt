@@ -8,7 +8,7 @@ use Rattle.stream_core.proofs.Roots.{founded}
 use Rattle.stream_core.proofs.spec.Spec.buffer_weight.Goals as goal
 
 pub weigh_heaviest-requires-clause-founded : goal.weigh_heaviest-requires-clause-founded
-weigh_heaviest-requires-clause-founded c = founded c.args.self.now c.requires.typed c.requires.no_ring
+weigh_heaviest-requires-clause-founded c = founded c.args.self.now c.requires.typed c.requires.no_cycle
 
 pub weigh_heaviest-requires-clause-good : goal.weigh_heaviest-requires-clause-good
 weigh_heaviest-requires-clause-good c =

@@ -1,7 +1,7 @@
 use Rattle.std.proofs.Common.{Some, ap, sym, ◌∙◌}
 use Rattle.std.proofs.lemmas.Option.{slice_get_within}
 use Rattle.stream_core.proofs.SameNode.{same}
-use Rattle.stream_core.proofs.Kept.{placed_from, list_from, nodes_kept}
+use Rattle.stream_core.proofs.NodesOnce.{placed_from, list_from, nodes_kept}
 use Rattle.stream_core.proofs.spec.Spec.place.Goals as goal
 
 pub returns-clause-placed : goal.returns-clause-placed

@@ -8,25 +8,25 @@ use Rattle.stream_core.proofs.WholeWeight.{weight_is}
 use Rattle.stream_core.proofs.spec.Spec.weight.Goals as goal
 
 pub weigh_triggers-total-requires-clause-founded : goal.weigh_triggers-total-requires-clause-founded
-weigh_triggers-total-requires-clause-founded c = founded c.args.self.now c.requires.typed c.requires.no_ring
+weigh_triggers-total-requires-clause-founded c = founded c.args.self.now c.requires.typed c.requires.no_cycle
 
 pub weigh_triggers-total-requires-clause-there : goal.weigh_triggers-total-requires-clause-there
 weigh_triggers-total-requires-clause-there c = subst (All (IsTriggerThere c.args.self.now)) (sym c.triggers.ensures) (triggers_there c.args.self.now c.requires.typed)
 
 pub weigh_observers-total-requires-clause-founded : goal.weigh_observers-total-requires-clause-founded
-weigh_observers-total-requires-clause-founded c = founded c.args.self.now c.requires.typed c.requires.no_ring
+weigh_observers-total-requires-clause-founded c = founded c.args.self.now c.requires.typed c.requires.no_cycle
 
 pub weigh_observers-total-requires-clause-there : goal.weigh_observers-total-requires-clause-there
 weigh_observers-total-requires-clause-there c = subst (All (λ (x : ObserverItem). x.root.expr < length c.args.self.now.nodes)) (sym c.observers.ensures) (observers_there c.args.self.now c.requires.typed)
 
 pub weigh_streams-total-requires-clause-founded : goal.weigh_streams-total-requires-clause-founded
-weigh_streams-total-requires-clause-founded c = founded c.args.self.now c.requires.typed c.requires.no_ring
+weigh_streams-total-requires-clause-founded c = founded c.args.self.now c.requires.typed c.requires.no_cycle
 
 pub weigh_streams-total-requires-clause-there : goal.weigh_streams-total-requires-clause-there
 weigh_streams-total-requires-clause-there c = subst (All (λ (x : StreamItem). x.expr < length c.args.self.now.nodes)) (sym c.streams.ensures) (streams_there c.args.self.now c.requires.typed)
 
 pub weigh_libs-requires-clause-founded : goal.weigh_libs-requires-clause-founded
-weigh_libs-requires-clause-founded c = founded c.args.self.now c.requires.typed c.requires.no_ring
+weigh_libs-requires-clause-founded c = founded c.args.self.now c.requires.typed c.requires.no_cycle
 
 pub weigh_libs-requires-clause-good : goal.weigh_libs-requires-clause-good
 weigh_libs-requires-clause-good c = subst (All (IsGoodItem c.args.self.now)) (sym c.libs.ensures) (items_good c.args.self.now c.requires.typed)

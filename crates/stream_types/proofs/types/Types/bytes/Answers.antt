@@ -1,5 +1,5 @@
 use Rattle.std.proofs.Common.{sym, ◌∙◌}
-use Rattle.stream_types.proofs.Leaves.{size-leaves}
+use Rattle.stream_types.proofs.LeafWords.{size-leaves}
 use Rattle.stream_types.proofs.types.Types.bytes.Goals as goal
 
 pub returns-clause-scalars : goal.returns-clause-scalars

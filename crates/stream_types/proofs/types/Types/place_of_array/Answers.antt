@@ -1,6 +1,6 @@
 use Rattle.std.proofs.Common.{◌≡◌, true, length, arith, ap, ◌∙◌, below_more}
 use Rattle.std.proofs.lemmas.Option.{slice_get_within}
-use Rattle.stream_types.specs.Kept.{entries_of}
+use Rattle.stream_types.specs.Measures.{entries_of}
 use Rattle.stream_types.specs.declared.types.Measured.{Measured}
 use Rattle.stream_types.specs.declared.types.TypeEntry.TheVariants as entry
 use Rattle.std.proofs.lemmas.List.{length-map}

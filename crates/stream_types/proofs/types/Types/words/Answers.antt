@@ -1,6 +1,6 @@
 use Rattle.std.proofs.Common.{sym, ◌∙◌}
 use Rattle.stream_types.proofs.Widths.{words-entry}
-use Rattle.stream_types.proofs.Leaves.{length-leaves}
+use Rattle.stream_types.proofs.LeafWords.{length-leaves}
 use Rattle.stream_types.proofs.types.Types.words.Goals as goal
 
 pub returns-clause-by_entry : goal.returns-clause-by_entry

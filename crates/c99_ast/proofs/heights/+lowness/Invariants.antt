@@ -1,8 +1,0 @@
-use Rattle.std.proofs.Common.{◌≡◌, map, drop}
-use Rattle.std.specs.Prelude.{nat_le}
-use Rattle.c99_ast.specs.Tree.{tree, exprs}
-use Rattle.c99_ast.specs.Spelling.{highest}
-use Rattle.c99_ast.proofs.heights.+lowness.Given as goal
-
-abbrev pub invariant-are_low-loop-e : goal.invariant-are_low-loop-e
-invariant-are_low-loop-e l = nat_le (highest (exprs (map tree (drop l.e-index l.all)))) l.most ≡ nat_le (highest (exprs (map tree l.all))) l.most

@@ -1,5 +1,0 @@
-use Rattle.c99_ast.proofs.Counts.{step-count}
-use Rattle.c99_ast.proofs.laws.count_is_within_weight.Goals as goal
-
-pub returns : goal.returns
-returns c = step-count

@@ -1,5 +1,0 @@
-use Rattle.c99_ast.proofs.Runs.{first_rows}
-use Rattle.c99_ast.proofs.laws.run_reads_first_rows.Goals as goal
-
-pub returns : goal.returns
-returns c = first_rows

@@ -1,5 +1,0 @@
-use Rattle.c99_ast.proofs.Runs.{next_step}
-use Rattle.c99_ast.proofs.laws.step_reads_statics_and_row.Goals as goal
-
-pub returns : goal.returns
-returns c = next_step

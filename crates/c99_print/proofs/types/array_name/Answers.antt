@@ -1,0 +1,5 @@
+use Rattle.sm_print.proofs.Printing.{◌⨾◌, Prints-is}
+use Rattle.c99_print.proofs.types.array_name.Goals as goal
+
+pub returns : goal.returns
+returns g c = Prints-is (rw (c.bytes.ensures.bytes, c.from.ensures)) (c.put.ensures ⨾ c.put-2.ensures ⨾ c.put-3.ensures ⨾ c.number.ensures)

@@ -1,0 +1,9 @@
+pub mod Optional
+pub mod Literals
+pub mod Shapes
+pub mod Shaped
+pub mod Soundness
+pub mod Whole
+pub mod Runs
+pub mod Counts
+pub mod WorkedPrograms

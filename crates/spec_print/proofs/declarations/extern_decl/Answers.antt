@@ -1,0 +1,8 @@
+use Rattle.std.proofs.Common.{codes, None}
+use Rattle.spec_text.specs.Form.{form_of_type, word}
+use Rattle.sm_print.proofs.Printing.{◌⨾◌, Prints-is}
+use Rattle.spec_print.proofs.Items.{two-text}
+use Rattle.spec_print.proofs.declarations.extern_decl.Goals as goal
+
+pub returns : goal.returns
+returns g c = Prints-is (rw (c.bytes.ensures.bytes) (two-text (codes "extern") (word None c.args.name.now) (form_of_type c.args.ty.now))) (c.opened.ensures ⨾ c.spaced.ensures ⨾ c.spaced_type.ensures ⨾ c.put.ensures)

@@ -1,5 +1,0 @@
-use Rattle.spec_print.proofs.ReadDecls.{one-surface}
-use Rattle.spec_print.proofs.laws.forest_has_one_surface.Goals as goal
-
-pub returns : goal.returns
-returns c = one-surface

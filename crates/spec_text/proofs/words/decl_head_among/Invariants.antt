@@ -1,7 +1,0 @@
-use Rattle.std.proofs.Common.{◌≡◌, drop}
-use Rattle.std.specs.Prelude.{find, bytes_eq}
-use Rattle.spec_text.specs.Words.{decl_word}
-use Rattle.spec_text.proofs.words.decl_head_among.Given as goal
-
-abbrev pub invariant-loop-head : goal.invariant-loop-head
-invariant-loop-head l = find (λ h. bytes_eq (decl_word h) l.bytes) (drop l.head-index l.heads) ≡ find (λ h. bytes_eq (decl_word h) l.bytes) l.heads

@@ -1,0 +1,4 @@
+pub mod WordLaws
+pub mod DecimalLaws
+pub mod LiteralLaws
+pub mod ReadBack
