@@ -18,10 +18,14 @@ mod weight;
 
 pub use c99_tree::{
     CBin, CDef, CExpr, CLit, CProto, CRing, CScalar, CStmt, CTy, CUn, CVar, Kind, MOST_HEIGHT,
-    Named, Undefined, Unit, count_is_within_weight, element_scalar, fields_of, fits_in, handler_of,
-    has_array, has_struct, is_defined, is_element, is_low, is_ring_name, is_same, kind_of,
-    operator, ring_of, run_goes_on, run_reads_first_rows, scalar_name, sign,
-    step_reads_statics_and_row, suffix, type_of, var_of,
+    Named, Undefined, Unit, conversions_give, count_is_within_weight, each_rule_refuses,
+    element_scalar, expressions_find_what_they_name, fields_of, first_statics_have_their_types,
+    fits_in, handler_of, has_array, has_struct, is_defined, is_element, is_low, is_ring_name,
+    is_same, kind_of, objects_give, operator, operators_give, programs_work, ring_of, rings_take,
+    run_goes_on, run_reads_first_rows, run_respects_types, scalar_name, sign, statements_call,
+    statements_find_what_they_name, step_reads_statics_and_row, step_respects_types, suffix,
+    these_have_no_type, type_of, undefined_is_met, value_has_its_type, var_of,
+    words_give_value_back, words_give_values_of_their_type, words_read_are_those_of_value,
 };
 pub use rules::well_formed;
 pub use statics::storage;

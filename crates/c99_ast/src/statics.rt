@@ -12,8 +12,9 @@ use crate::totals::{BOUND, sum, times};
 use c99_tree::{CDef, CRing, CScalar, CTy, CVar, Unit, element_scalar, fields_of};
 use sm_io::Name;
 
-/// The bytes of the unit's static objects, without padding: each ring's values, four more for a ring's index, and a copy
-/// of each extern. 4,294,967,296 where it is more. Each type of the unit stands among the definitions before its use.
+/// The bytes of the unit's static objects, without padding: the values of each ring with an index and four bytes for the
+/// index, one value for a ring without, and a copy of each extern. 4,294,967,296 where it is more. Each type of the unit
+/// stands among the definitions before its use.
 pub fn storage(unit: &Unit) -> u64
     requires { IsTrue (types_come_first unit.now) }
     ensures { result ≡ up_to_bound (spec.storage_of unit.now) }
@@ -57,8 +58,11 @@ fn ring_storage(types: &[CDef], r: &CRing) -> u64
     requires { IsSome (shape_of types.now r.now.ty) }
     ensures { result ≡ up_to_bound (spec.ring_storage types.now r.now) }
 {
-    let values = times(r.len, size_of(types.len() + 1, types, &r.ty));
-    if r.indexed { sum(values, 4) } else { values }
+    let one = size_of(types.len() + 1, types, &r.ty);
+    if !r.indexed {
+        return one;
+    }
+    sum(times(r.len, one), 4)
 }
 
 fn scalar_size(t: CScalar) -> u64

@@ -1,5 +1,5 @@
 -- An expression is read as it was written.
-use Rattle.std.proofs.Common.{◌≡◌, ℕ, zero, suc, ◌^◌, ◌<◌, ◌≤◌, Bool, true, false, not, ◌&&◌, ◌||◌, leb, eqb, List, [], ◌∷◌, ◌++◌, length, Option, Some, None, inl, inr, refl, sym, ap, subst, ◌∙◌, append_assoc, length-append, codes, arith}
+use Rattle.std.proofs.Common.{◌≡◌, ℕ, zero, suc, ◌^◌, ◌<◌, ◌≤◌, Bool, true, false, not, ◌&&◌, ◌||◌, leb, eqb, List, [], ◌∷◌, ◌++◌, length, Option, Some, None, inl, inr, refl, sym, ap, ◌∙◌, append_assoc, length-append, codes, arith}
 use Rattle.std.specs.Fmt.{decimal}
 use Rattle.std.specs.List.{list_all}
 use Rattle.std.proofs.lemmas.Fmt.{decimal_nonempty}
@@ -17,7 +17,7 @@ use Rattle.c99_tree.specs.declared.types.CScalar.TheVariants as t
 use Rattle.c99_tree.specs.Tree.{Expr, Exprs, lit, yes, no, copy, head, cell, ring_at, un, bin, choose, cast, field, pick, arr, rec, none, more}
 use Rattle.c99_tree.specs.Words.{is_same, is_digit, is_ring_name, is_element}
 use Rattle.c99_tree.specs.Spelling.{text, parted, operator, scalar_text, array_text, sign, suffix, most, height, highest, is_spelled, are_spelled, is_u32}
-use Rattle.c99_read.specs.Front.{◌>>=◌, behind, word, after_word, token, after_token}
+use Rattle.c99_read.specs.Front.{begins, ◌>>=◌, behind, word, after_word, token, after_token}
 use Rattle.c99_read.specs.ExprAt.{level, expr_at, part_at, Sub, leaf, at_word, inside, tail, sign_of, at_type, at_struct, operator_of, suffix_of, literal_of, named_of, others_at, ends_list, list_at}
 use Rattle.c99_read.proofs.FrontFinds.{ends, all_word, word_front, after_word_front, all_word-append, name_word, ring_word, decimal_digits, decimal_word, ends_number, number_front, after_number_front, number_of-decimal, in_range, name_no_cp, name_finds, array_of-is}
 use Rattle.c99_read.proofs.TypeFinds.{are_scalars, array_word, array_word-word}
@@ -360,24 +360,45 @@ reads_rec sub n all ok s r = record {
 
 -- ---- all expressions
 
-at_level : (n : ℕ) → level (part_at n) ≡ expr_at n
-unfolding part_at expr_at
-at_level zero = refl
-at_level (suc n) = refl
+-- an expression that is a word
+record IsLow (e : Expr) : Type 0 where
+  no_bracket : (x : List ℕ) → begins (codes "(") (text e ++ x) ≡ false
 
-here : (n : ℕ) (e : Expr) → Reads (level (part_at n)) e → Reads (expr_at n) e
-here n e r = subst (λ (f : Sub). Reads f e) (at_level n) r
+low_lit : (s : CLit) (n : ℕ) → leb n (most s) ≡ true → IsLow (lit s n)
+unfolding behind
+low_lit s n h =
+    let fits = most_fits s n (leb-true n (most s) h) in
+    let d = digit_first (decimal n) (suffix s) (decimal_nonempty n fits) (decimal_digits n fits) in
+    let r = in_range d.0 d.3 in
+    record { no_bracket = λ x. rw (d.2, ne_eqb 40 d.0 (λ e. omega (arith, r))) refl }
+
+low_c : (e : Expr) (rest : List ℕ) → text e ≡ 99 ∷ rest → IsLow e
+unfolding behind
+low_c e rest is = record { no_bracket = λ x. rw is refl }
+
+low_yes : IsLow yes
+unfolding behind
+low_yes = record { no_bracket = λ x. refl }
+
+low_no : IsLow no
+unfolding behind
+low_no = record { no_bracket = λ x. refl }
+
+here : (n : ℕ) (e : Expr) → IsLow e → Reads (level (part_at n)) e → Reads (expr_at n) e
+unfolding part_at expr_at
+here zero e l r = record { finds = λ x h. rw (l.no_bracket x) (r.finds x h) }
+here (suc n) e l r = r
 
 mutual
   unfolding expr_at
 
   pub again : (e : Expr) (n : ℕ) → height e ≤ n → is_spelled e ≡ true → Reads (expr_at n) e
-  again (lit s v) n h g = here n (lit s v) (reads_lit (part_at n) s v g)
-  again yes n h s = here n yes (reads_yes (part_at n))
-  again no n h s = here n no (reads_no (part_at n))
-  again (copy x) n h s = here n (copy x) (reads_copy (part_at n) x s)
-  again (head r) n h s = here n (head r) (reads_head (part_at n) r s)
-  again (cell r) n h s = here n (cell r) (reads_cell (part_at n) r s)
+  again (lit s v) n h g = here n (lit s v) (low_lit s v g) (reads_lit (part_at n) s v g)
+  again yes n h s = here n yes low_yes (reads_yes (part_at n))
+  again no n h s = here n no low_no (reads_no (part_at n))
+  again (copy x) n h s = here n (copy x) (low_c (copy x) (codes "p_c_" ++ x) refl) (reads_copy (part_at n) x s)
+  again (head r) n h s = here n (head r) (low_c (head r) (codes "p_i_" ++ r) refl) (reads_head (part_at n) r s)
+  again (cell r) n h s = here n (cell r) (low_c (cell r) (codes "p_b_" ++ r) refl) (reads_cell (part_at n) r s)
   again (ring_at r a) (suc n) h s = let p = and_parts (is_ring_name r) (is_spelled a) s in reads_ring_at (expr_at n) r a p.0 (again a n (omega arith) p.1)
   again (ring_at r a) zero h s = absurd (omega arith)
   again (un op a) (suc n) h s = reads_un (expr_at n) op a (again a n (omega arith) s)

@@ -11,7 +11,7 @@ use Rattle.c99_tree.specs.declared.expr.CBin.TheVariants as o
 use Rattle.c99_tree.specs.Tree.{Expr, Exprs, lit, yes, no, copy, head, cell, ring_at, un, bin, choose, cast, field, pick, arr, rec, none, more}
 use Rattle.c99_tree.specs.Words.{is_same, is_digit, is_ring_name}
 use Rattle.c99_tree.specs.Spelling.{suffix, most, operator}
-use Rattle.c99_read.specs.Front.{◌>>=◌, behind, word, after_word, token, after_token, number, after_number, number_of, name_at, array_of}
+use Rattle.c99_read.specs.Front.{◌>>=◌, behind, word, after_word, token, after_token, number, after_number, number_of, name_at, array_of, begins}
 use Rattle.c99_read.specs.TypeAt.{scalar_of}
 
 abbrev pub operators : List CBin
@@ -188,9 +188,13 @@ level sub bytes = at_word sub (word bytes) (after_word bytes)
 abbrev pub nothing : Sub
 nothing bytes = None
 
+-- an expression of height 0 is a word: no form in brackets, also not one of no parts
+abbrev pub lowest : Sub
+lowest bytes = if begins (codes "(") bytes then None else level nothing bytes
+
 -- the expression of at most this height at the front, and the bytes behind it
 unfoldable pub expr_at : ℕ → Sub
-expr_at zero = level nothing
+expr_at zero = lowest
 expr_at (suc n) = level (expr_at n)
 
 -- what the parts of an expression of at most this height are read by

@@ -1,3 +1,5 @@
+-- A reader of the two texts, as functions on lists. They serve the proof of `texts_spell_one_unit`; no public clause
+-- cites them.
 pub mod Front
 pub mod TypeAt
 pub mod ExprAt

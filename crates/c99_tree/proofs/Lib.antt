@@ -1,3 +1,15 @@
+pub mod NumberRanges
+pub mod NumberTypes
+pub mod LookedUp
+pub mod TypedValues
+pub mod TypedExpressions
+pub mod TypedShapes
+pub mod TypedStatements
+pub mod TypedRuns
+pub mod ExpressionsFind
+pub mod StatementsFind
+pub mod WordsBack
+pub mod WordsAgain
 pub mod Optional
 pub mod Literals
 pub mod Shapes
@@ -7,3 +19,5 @@ pub mod Whole
 pub mod Runs
 pub mod Counts
 pub mod WorkedPrograms
+pub mod Tall
+pub mod Refused

@@ -1,16 +1,12 @@
 -- Whole programs: their texts, their storage and weight, that they are well formed, and what they do.
-use Rattle.std.specs.Prelude.{◌≡◌, ℕ, zero, suc, true, false, List, [], ◌∷◌, ◌++◌, replicate, codes, Result, Ok, Err, pos, negsuc, refl}
+use Rattle.std.specs.Prelude.{◌≡◌, ℕ, zero, suc, List, [], ◌∷◌, ◌++◌, replicate, codes, Result, Ok, Err, pos, negsuc, refl}
 use Rattle.std.proofs.Common.{ap, ◌∙◌}
 use Rattle.std.specs.Fmt.{digits}
 use Rattle.c99_tree.specs.declared.expr.CLit.TheVariants as k
 use Rattle.c99_tree.specs.declared.expr.CUn.TheVariants as u
 use Rattle.c99_tree.specs.declared.expr.CBin.TheVariants as o
-use Rattle.c99_tree.specs.declared.expr.CExpr.TheVariants as e
 use Rattle.c99_tree.specs.declared.types.CScalar.TheVariants as t
-use Rattle.c99_tree.specs.declared.types.CTy.TheVariants as ty
-use Rattle.c99_tree.specs.declared.types.CDef.TheVariants as def
 use Rattle.c99_tree.specs.declared.undefined.Undefined.TheVariants as why
-use Rattle.c99_tree.specs.declared.unit.CStmt.TheVariants as s
 use Rattle.c99_tree.specs.declared.unit.Unit.{Unit as CUnit}
 use Rattle.sm_io.specs.Words.{reserved, limit_fronts, limit_ends}
 use Rattle.c99_tree.specs.Tree.{lit, yes, copy, head, cell, ring_at, un, bin, cast, field, pick, none, more, Stmt, copies, calls, nexts, stores, moves, puts, statements}
@@ -22,7 +18,9 @@ use Rattle.c99_tree.specs.Storage.{storage_of}
 use Rattle.c99_tree.specs.Weight.{unit_weight_of}
 use Rattle.c99_tree.specs.WellFormed.{IsWellFormed}
 use Rattle.c99_tree.specs.Evaluation.{evaluate}
-use Rattle.c99_tree.specs.Step.{Called, perform, carry_out_all}
+use Rattle.c99_tree.specs.Step.{perform, carry_out_all}
+use Rattle.c99_tree.specs.Rows.{call}
+use Rattle.c99_tree.specs.Programs.{heater, empty, door, counter, old_counter, pair, square, least, constants, picker, called_at_zero, HeaterWorks, EmptyWorks, DoorWorks, CounterWorks, OldCounterWorks, PairWorks, SquareWorks, LeastWorks, ConstantsWorks, PickerWorks}
 use Rattle.c99_tree.specs.Run.{Ran, Stopped, run, run_to, row_at, with_step, stepped, calls_of, first_statics}
 
 -- ---- runs of programs whose statements are known
@@ -49,22 +47,7 @@ run_to-by u rows (suc n) = ap (stepped u (row_at rows n) n) (run_to-by u rows n)
 known_run : (u : CUnit) (ss : List Stmt) (rows : List (List ℕ)) (n : ℕ) → statements u ≡ ss → run u rows n ≡ calls_of (run_by u ss rows n)
 known_run u ss rows n is = ap calls_of (run_to-by u rows n ∙ ap (λ (x : List Stmt). run_by u x rows n) is)
 
-call : ℕ → List ℕ → Called
-call h ws = record { handler = h; words = ws }
-
 -- ---- a heater that one extern switches
-
-heater : CUnit
-heater = record {
-  name = codes "heater";
-  types = [];
-  storage = 4;
-  need = 1;
-  externs = record { name = codes "temp"; ty = ty.Scalar t.I32 } ∷ [];
-  handlers = record { name = codes "heat"; params = ty.Scalar t.I32 ∷ [] } ∷ [];
-  rings = [];
-  step = s.Copy (codes "temp") ∷ s.Call (codes "heat") (e.Bin o.Lt (e.Copy (codes "temp")) (e.Lit k.I 18)) (e.Copy (codes "temp") ∷ []) ∷ [];
-}
 
 heater_step : List Stmt
 heater_step = copies (codes "temp") ∷ calls (codes "heat") (bin o.Lt (copy (codes "temp")) (lit k.I 18)) (more (copy (codes "temp")) none) ∷ []
@@ -115,22 +98,10 @@ heater_is_well_formed = record { names = simp tree_laws; spaces = refl; types_fi
 
 -- over 20 and 17
 heater_run : run heater ((20 ∷ []) ∷ (17 ∷ []) ∷ []) 2 ≡ Ok ([] ∷ (call 0 (17 ∷ []) ∷ []) ∷ [])
-unfolding heater heater_step call run_by stepped_by carry_out_all evaluate shape_within
+unfolding heater heater_step run_by stepped_by carry_out_all evaluate shape_within
 heater_run = known_run heater heater_step ((20 ∷ []) ∷ (17 ∷ []) ∷ []) 2 heater_step_is
 
 -- ---- a program of nothing
-
-empty : CUnit
-empty = record {
-  name = codes "a";
-  types = [];
-  storage = 0;
-  need = 0;
-  externs = [];
-  handlers = [];
-  rings = [];
-  step = [];
-}
 
 empty_step : List Stmt
 empty_step = []
@@ -175,18 +146,6 @@ unfolding empty shape_within reserved limit_fronts limit_ends
 empty_is_well_formed = record { names = refl; spaces = refl; types_first = refl; used_there = refl; fields = refl; literals = refl; constants = refl; types = refl; arguments = refl; scalars = refl; assigned = refl; copied = refl; rings = refl; lengths = refl; heights = refl; totals = refl }
 
 -- ---- a door, with a handler that takes nothing
-
-door : CUnit
-door = record {
-  name = codes "door";
-  types = [];
-  storage = 1;
-  need = 0;
-  externs = record { name = codes "ajar"; ty = ty.Scalar t.Bool } ∷ [];
-  handlers = record { name = codes "chime"; params = [] } ∷ [];
-  rings = [];
-  step = s.Copy (codes "ajar") ∷ s.Call (codes "chime") (e.Copy (codes "ajar")) [] ∷ [];
-}
 
 door_step : List Stmt
 door_step = copies (codes "ajar") ∷ calls (codes "chime") (copy (codes "ajar")) none ∷ []
@@ -237,18 +196,6 @@ door_is_well_formed = record { names = simp tree_laws; spaces = refl; types_firs
 
 -- ---- a counter of eight bits that wraps, kept as one value
 
-counter : CUnit
-counter = record {
-  name = codes "c";
-  types = [];
-  storage = 1;
-  need = 5;
-  externs = [];
-  handlers = record { name = codes "t"; params = ty.Scalar t.U8 ∷ [] } ∷ [];
-  rings = record { name = codes "n"; ty = ty.Scalar t.U8; len = 1; indexed = false; init = 0 ∷ [] } ∷ [];
-  step = s.Call (codes "t") (e.Bin o.Eq (e.Cell (codes "n")) (e.Lit k.U 0)) (e.Cell (codes "n") ∷ []) ∷ s.Next (codes "n") (e.Cast t.U8 (e.Bin o.Add (e.Cast t.U32 (e.Cell (codes "n"))) (e.Cast t.U32 (e.Lit k.U 1)))) ∷ s.Put (codes "n") ∷ [];
-}
-
 counter_step : List Stmt
 counter_step = calls (codes "t") (bin o.Eq (cell (codes "n")) (lit k.U 0)) (more (cell (codes "n")) none) ∷ nexts (codes "n") (cast t.U8 (bin o.Add (cast t.U32 (cell (codes "n"))) (cast t.U32 (lit k.U 1)))) ∷ puts (codes "n") ∷ []
 
@@ -296,28 +243,11 @@ counter_is_well_formed : IsWellFormed counter
 unfolding counter shape_within reserved limit_fronts limit_ends
 counter_is_well_formed = record { names = simp tree_laws; spaces = refl; types_first = refl; used_there = simp tree_laws; fields = refl; literals = simp tree_laws; constants = refl; types = simp tree_laws; arguments = refl; scalars = simp tree_laws; assigned = simp tree_laws; copied = simp tree_laws; rings = simp tree_laws; lengths = refl; heights = simp tree_laws; totals = simp tree_laws }
 
--- 258 rows, in which it wraps once
-called_at_zero : ℕ → List (List Called)
-unfolding call
-called_at_zero n = (call 0 (0 ∷ []) ∷ []) ∷ replicate n []
-
 counter_run : run counter (replicate 258 []) 258 ≡ Ok (called_at_zero 255 ++ called_at_zero 1)
-unfolding counter counter_step call called_at_zero run_by stepped_by carry_out_all evaluate shape_within
+unfolding counter counter_step run_by stepped_by carry_out_all evaluate shape_within
 counter_run = known_run counter counter_step (replicate 258 []) 258 counter_step_is
 
 -- ---- the same counter, kept as a ring with an index
-
-old_counter : CUnit
-old_counter = record {
-  name = codes "c";
-  types = [];
-  storage = 5;
-  need = 17;
-  externs = [];
-  handlers = record { name = codes "t"; params = ty.Scalar t.U8 ∷ [] } ∷ [];
-  rings = record { name = codes "n"; ty = ty.Scalar t.U8; len = 1; indexed = true; init = 0 ∷ [] } ∷ [];
-  step = s.Call (codes "t") (e.Bin o.Eq (e.RingAt (codes "n") (e.Bin o.Rem (e.Bin o.Add (e.Head (codes "n")) (e.Lit k.U 0)) (e.Lit k.U 1))) (e.Lit k.U 0)) ((e.RingAt (codes "n") (e.Bin o.Rem (e.Bin o.Add (e.Head (codes "n")) (e.Lit k.U 0)) (e.Lit k.U 1))) ∷ []) ∷ s.Next (codes "n") (e.Cast t.U8 (e.Bin o.Add (e.Cast t.U32 (e.RingAt (codes "n") (e.Bin o.Rem (e.Bin o.Add (e.Head (codes "n")) (e.Lit k.U 0)) (e.Lit k.U 1)))) (e.Cast t.U32 (e.Lit k.U 1)))) ∷ s.Store (codes "n") (e.Head (codes "n")) ∷ s.Move (codes "n") (e.Bin o.Rem (e.Bin o.Add (e.Head (codes "n")) (e.Lit k.U 1)) (e.Lit k.U 1)) ∷ [];
-}
 
 old_counter_step : List Stmt
 old_counter_step = calls (codes "t") (bin o.Eq (ring_at (codes "n") (bin o.Rem (bin o.Add (head (codes "n")) (lit k.U 0)) (lit k.U 1))) (lit k.U 0)) (more (ring_at (codes "n") (bin o.Rem (bin o.Add (head (codes "n")) (lit k.U 0)) (lit k.U 1))) none) ∷ nexts (codes "n") (cast t.U8 (bin o.Add (cast t.U32 (ring_at (codes "n") (bin o.Rem (bin o.Add (head (codes "n")) (lit k.U 0)) (lit k.U 1)))) (cast t.U32 (lit k.U 1)))) ∷ stores (codes "n") (head (codes "n")) ∷ moves (codes "n") (bin o.Rem (bin o.Add (head (codes "n")) (lit k.U 1)) (lit k.U 1)) ∷ []
@@ -369,22 +299,10 @@ unfolding old_counter shape_within reserved limit_fronts limit_ends
 old_counter_is_well_formed = record { names = simp tree_laws; spaces = refl; types_first = refl; used_there = simp tree_laws; fields = refl; literals = simp tree_laws; constants = refl; types = simp tree_laws; arguments = refl; scalars = simp tree_laws; assigned = simp tree_laws; copied = simp tree_laws; rings = simp tree_laws; lengths = refl; heights = simp tree_laws; totals = simp tree_laws }
 
 old_counter_run : run old_counter (replicate 258 []) 258 ≡ Ok (called_at_zero 255 ++ called_at_zero 1)
-unfolding old_counter old_counter_step call called_at_zero run_by stepped_by carry_out_all evaluate shape_within
+unfolding old_counter old_counter_step run_by stepped_by carry_out_all evaluate shape_within
 old_counter_run = known_run old_counter old_counter_step (replicate 258 []) 258 old_counter_step_is
 
 -- ---- two streams that read each other
-
-pair : CUnit
-pair = record {
-  name = codes "pair";
-  types = [];
-  storage = 28;
-  need = 13;
-  externs = [];
-  handlers = record { name = codes "o"; params = ty.Scalar t.I32 ∷ ty.Scalar t.I32 ∷ [] } ∷ [];
-  rings = record { name = codes "x"; ty = ty.Scalar t.I32; len = 1; indexed = false; init = 1 ∷ [] } ∷ record { name = codes "y"; ty = ty.Scalar t.I32; len = 5; indexed = true; init = 0 ∷ 1 ∷ 2 ∷ 3 ∷ 4 ∷ [] } ∷ [];
-  step = s.Call (codes "o") e.True (e.Cell (codes "x") ∷ (e.RingAt (codes "y") (e.Bin o.Rem (e.Bin o.Add (e.Head (codes "y")) (e.Lit k.U 0)) (e.Lit k.U 5))) ∷ []) ∷ s.Next (codes "x") (e.Cast t.I32 (e.Bin o.Add (e.Cast t.I32 (e.Cell (codes "x"))) (e.Cast t.I32 (e.RingAt (codes "y") (e.Bin o.Rem (e.Bin o.Add (e.Head (codes "y")) (e.Lit k.U 4)) (e.Lit k.U 5)))))) ∷ s.Next (codes "y") (e.Cell (codes "x")) ∷ s.Put (codes "x") ∷ s.Store (codes "y") (e.Head (codes "y")) ∷ s.Move (codes "y") (e.Bin o.Rem (e.Bin o.Add (e.Head (codes "y")) (e.Lit k.U 1)) (e.Lit k.U 5)) ∷ [];
-}
 
 pair_step : List Stmt
 pair_step = calls (codes "o") yes (more (cell (codes "x")) (more (ring_at (codes "y") (bin o.Rem (bin o.Add (head (codes "y")) (lit k.U 0)) (lit k.U 5))) none)) ∷ nexts (codes "x") (cast t.I32 (bin o.Add (cast t.I32 (cell (codes "x"))) (cast t.I32 (ring_at (codes "y") (bin o.Rem (bin o.Add (head (codes "y")) (lit k.U 4)) (lit k.U 5)))))) ∷ nexts (codes "y") (cell (codes "x")) ∷ puts (codes "x") ∷ stores (codes "y") (head (codes "y")) ∷ moves (codes "y") (bin o.Rem (bin o.Add (head (codes "y")) (lit k.U 1)) (lit k.U 5)) ∷ []
@@ -413,22 +331,10 @@ pair_is_well_formed = record { names = simp tree_laws; spaces = refl; types_firs
 pair_run : run pair (replicate 6 []) 6 ≡
     Ok ((call 0 (1 ∷ 0 ∷ []) ∷ []) ∷ (call 0 (5 ∷ 1 ∷ []) ∷ []) ∷ (call 0 (6 ∷ 2 ∷ []) ∷ []) ∷ (call 0 (11 ∷ 3 ∷ []) ∷ [])
     ∷ (call 0 (17 ∷ 4 ∷ []) ∷ []) ∷ (call 0 (28 ∷ 1 ∷ []) ∷ []) ∷ [])
-unfolding pair pair_step call run_by stepped_by carry_out_all evaluate shape_within
+unfolding pair pair_step run_by stepped_by carry_out_all evaluate shape_within
 pair_run = known_run pair pair_step (replicate 6 []) 6 pair_step_is
 
 -- ---- a product that would overflow an int, and does not in uint32_t
-
-square : CUnit
-square = record {
-  name = codes "w";
-  types = [];
-  storage = 2;
-  need = 4;
-  externs = record { name = codes "w"; ty = ty.Scalar t.U16 } ∷ [];
-  handlers = record { name = codes "t"; params = ty.Scalar t.U16 ∷ [] } ∷ [];
-  rings = [];
-  step = s.Copy (codes "w") ∷ s.Call (codes "t") e.True (e.Cast t.U16 (e.Bin o.Mul (e.Cast t.U32 (e.Copy (codes "w"))) (e.Cast t.U32 (e.Copy (codes "w")))) ∷ []) ∷ [];
-}
 
 square_step : List Stmt
 square_step = copies (codes "w") ∷ calls (codes "t") yes (more (cast t.U16 (bin o.Mul (cast t.U32 (copy (codes "w"))) (cast t.U32 (copy (codes "w"))))) none) ∷ []
@@ -465,7 +371,7 @@ unfolding square shape_within reserved limit_fronts limit_ends
 square_is_well_formed = record { names = simp tree_laws; spaces = refl; types_first = refl; used_there = simp tree_laws; fields = refl; literals = simp tree_laws; constants = refl; types = simp tree_laws; arguments = refl; scalars = simp tree_laws; assigned = simp tree_laws; copied = simp tree_laws; rings = simp tree_laws; lengths = refl; heights = simp tree_laws; totals = simp tree_laws }
 
 square_run : run square ((65535 ∷ []) ∷ []) 1 ≡ Ok ((call 0 (1 ∷ []) ∷ []) ∷ [])
-unfolding square square_step call run_by stepped_by carry_out_all evaluate shape_within
+unfolding square square_step run_by stepped_by carry_out_all evaluate shape_within
 square_run = known_run square square_step ((65535 ∷ []) ∷ []) 1 square_step_is
 
 -- without the casts the factors are promoted to int, which 65535 times 65535 overflows
@@ -474,18 +380,6 @@ unfolding square evaluate
 narrow_product = refl
 
 -- ---- a ring that begins with the least number of 64 bits
-
-least : CUnit
-least = record {
-  name = codes "m";
-  types = [];
-  storage = 8;
-  need = 3;
-  externs = [];
-  handlers = record { name = codes "t"; params = ty.Scalar t.I64 ∷ [] } ∷ [];
-  rings = record { name = codes "s"; ty = ty.Scalar t.I64; len = 1; indexed = false; init = 9223372036854775808 ∷ [] } ∷ [];
-  step = s.Call (codes "t") (e.Bin o.Eq (e.Cell (codes "s")) (e.Bin o.Sub (e.Un u.Neg (e.Lit k.LL 9223372036854775807)) (e.Lit k.LL 1))) (e.Cell (codes "s") ∷ []) ∷ s.Next (codes "s") (e.Cell (codes "s")) ∷ s.Put (codes "s") ∷ [];
-}
 
 least_step : List Stmt
 least_step = calls (codes "t") (bin o.Eq (cell (codes "s")) (bin o.Sub (un u.Neg (lit k.LL 9223372036854775807)) (lit k.LL 1))) (more (cell (codes "s")) none) ∷ nexts (codes "s") (cell (codes "s")) ∷ puts (codes "s") ∷ []
@@ -524,7 +418,7 @@ least_is_well_formed = record { names = simp tree_laws; spaces = refl; types_fir
 
 -- its word is 2^63
 least_run : run least ([] ∷ []) 1 ≡ Ok ((call 0 (9223372036854775808 ∷ []) ∷ []) ∷ [])
-unfolding least least_step call run_by stepped_by carry_out_all evaluate shape_within
+unfolding least least_step run_by stepped_by carry_out_all evaluate shape_within
 least_run = known_run least least_step ([] ∷ []) 1 least_step_is
 
 -- the least number, as an expression: its text, its value and its two operators
@@ -537,18 +431,6 @@ unfolding evaluate
 least_value = refl
 
 -- ---- negative constants as arguments
-
-constants : CUnit
-constants = record {
-  name = codes "n";
-  types = [];
-  storage = 0;
-  need = 4;
-  externs = [];
-  handlers = record { name = codes "t"; params = ty.Scalar t.I8 ∷ ty.Scalar t.I64 ∷ [] } ∷ [];
-  rings = [];
-  step = s.Call (codes "t") e.True (e.Bin o.Sub (e.Un u.Neg (e.Lit k.I 127)) (e.Lit k.I 1) ∷ e.Bin o.Sub (e.Un u.Neg (e.Lit k.LL 0)) (e.Lit k.LL 1) ∷ []) ∷ [];
-}
 
 constants_step : List Stmt
 constants_step = calls (codes "t") yes (more (bin o.Sub (un u.Neg (lit k.I 127)) (lit k.I 1)) (more (bin o.Sub (un u.Neg (lit k.LL 0)) (lit k.LL 1)) none)) ∷ []
@@ -583,18 +465,6 @@ unfolding constants shape_within reserved limit_fronts limit_ends
 constants_is_well_formed = record { names = simp tree_laws; spaces = refl; types_first = refl; used_there = simp tree_laws; fields = refl; literals = simp tree_laws; constants = refl; types = simp tree_laws; arguments = refl; scalars = simp tree_laws; assigned = simp tree_laws; copied = simp tree_laws; rings = simp tree_laws; lengths = refl; heights = simp tree_laws; totals = simp tree_laws }
 
 -- ---- a member of an element of an array of structs
-
-picker : CUnit
-picker = record {
-  name = codes "g";
-  types = def.Struct (codes "P") (record { name = codes "x"; ty = ty.Scalar t.I16 } ∷ record { name = codes "y"; ty = ty.Scalar t.I16 } ∷ []) ∷ def.Array (codes "P") 3 ∷ [];
-  storage = 16;
-  need = 3;
-  externs = record { name = codes "p"; ty = ty.Array (codes "P") 3 } ∷ record { name = codes "i"; ty = ty.Scalar t.U32 } ∷ [];
-  handlers = record { name = codes "t"; params = ty.Scalar t.I16 ∷ [] } ∷ [];
-  rings = [];
-  step = s.Copy (codes "p") ∷ s.Copy (codes "i") ∷ s.Call (codes "t") e.True (e.Field (e.Pick (codes "P") 3 (e.Copy (codes "p")) (e.Copy (codes "i"))) (codes "x") ∷ []) ∷ [];
-}
 
 picker_step : List Stmt
 picker_step = copies (codes "p") ∷ copies (codes "i") ∷ calls (codes "t") yes (more (field (pick (codes "P") 3 (copy (codes "p")) (copy (codes "i"))) (codes "x")) none) ∷ []
@@ -651,9 +521,39 @@ picker_is_well_formed = record { names = simp tree_laws; spaces = refl; types_fi
 
 -- the element at 2, and then none at 3
 picker_run : run picker ((1 ∷ 2 ∷ 3 ∷ 4 ∷ 5 ∷ 6 ∷ 2 ∷ []) ∷ []) 1 ≡ Ok ((call 0 (5 ∷ []) ∷ []) ∷ [])
-unfolding picker picker_step call run_by stepped_by carry_out_all evaluate shape_within
+unfolding picker picker_step run_by stepped_by carry_out_all evaluate shape_within
 picker_run = known_run picker picker_step ((1 ∷ 2 ∷ 3 ∷ 4 ∷ 5 ∷ 6 ∷ 2 ∷ []) ∷ []) 1 picker_step_is
 
 picker_stops : run picker ((1 ∷ 2 ∷ 3 ∷ 4 ∷ 5 ∷ 6 ∷ 2 ∷ []) ∷ (1 ∷ 2 ∷ 3 ∷ 4 ∷ 5 ∷ 6 ∷ 3 ∷ []) ∷ []) 2 ≡ Err (record { step = 1; kind = why.BadIndex })
 unfolding picker picker_step run_by stepped_by carry_out_all evaluate shape_within
 picker_stops = known_run picker picker_step ((1 ∷ 2 ∷ 3 ∷ 4 ∷ 5 ∷ 6 ∷ 2 ∷ []) ∷ (1 ∷ 2 ∷ 3 ∷ 4 ∷ 5 ∷ 6 ∷ 3 ∷ []) ∷ []) 2 picker_step_is
+
+pub heater-works : HeaterWorks
+heater-works = record { header_is = heater_header; source_is = heater_source; storage_is = heater_storage; weight_is = heater_need; is_spelled = heater_is_spelled; is_well_formed = heater_is_well_formed; runs = heater_run }
+
+pub empty-works : EmptyWorks
+empty-works = record { header_is = empty_header; source_is = empty_source; storage_is = empty_storage; weight_is = empty_need; is_spelled = empty_is_spelled; is_well_formed = empty_is_well_formed }
+
+pub door-works : DoorWorks
+door-works = record { header_is = door_header; source_is = door_source; storage_is = door_storage; weight_is = door_need; is_spelled = door_is_spelled; is_well_formed = door_is_well_formed }
+
+pub counter-works : CounterWorks
+counter-works = record { header_is = counter_header; source_is = counter_source; storage_is = counter_storage; weight_is = counter_need; is_spelled = counter_is_spelled; is_well_formed = counter_is_well_formed; runs = counter_run }
+
+pub old_counter-works : OldCounterWorks
+old_counter-works = record { header_is = old_counter_header; source_is = old_counter_source; storage_is = old_counter_storage; weight_is = old_counter_need; is_spelled = old_counter_is_spelled; is_well_formed = old_counter_is_well_formed; runs = old_counter_run }
+
+pub pair-works : PairWorks
+pair-works = record { storage_is = pair_storage; weight_is = pair_need; is_spelled = pair_is_spelled; is_well_formed = pair_is_well_formed; runs = pair_run }
+
+pub square-works : SquareWorks
+square-works = record { source_is = square_source; storage_is = square_storage; weight_is = square_need; is_spelled = square_is_spelled; is_well_formed = square_is_well_formed; runs = square_run; narrow_product = narrow_product }
+
+pub least-works : LeastWorks
+least-works = record { source_is = least_source; storage_is = least_storage; weight_is = least_need; is_spelled = least_is_spelled; is_well_formed = least_is_well_formed; runs = least_run; text_is = least_text; value_is = least_value }
+
+pub constants-works : ConstantsWorks
+constants-works = record { source_is = constants_source; storage_is = constants_storage; weight_is = constants_need; is_spelled = constants_is_spelled; is_well_formed = constants_is_well_formed }
+
+pub picker-works : PickerWorks
+picker-works = record { header_is = picker_header; source_is = picker_source; storage_is = picker_storage; weight_is = picker_need; is_spelled = picker_is_spelled; is_well_formed = picker_is_well_formed; runs = picker_run; stops = picker_stops }

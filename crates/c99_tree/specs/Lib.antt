@@ -17,3 +17,16 @@ pub mod Kinds
 pub mod Checks
 pub mod Filling
 pub mod Rules
+pub mod Rows
+pub mod OperatorRows
+pub mod ConversionRows
+pub mod UndefinedRows
+pub mod ObjectRows
+pub mod StepRows
+pub mod RefusedUnits
+pub mod StorageRows
+pub mod Programs
+pub mod UntypedRows
+pub mod Typed
+pub mod UndefinedCode
+pub mod LookUps

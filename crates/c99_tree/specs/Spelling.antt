@@ -44,11 +44,24 @@ most k.U = 4294967295
 most k.LL = 9223372036854775807
 most k.ULL = 18446744073709551615
 
+-- the bytes `!`, `~` and `-`, and the one that ends a line
+abbrev pub exclamation_mark : ℕ
+exclamation_mark = 33
+
+abbrev pub tilde : ℕ
+tilde = 126
+
+abbrev pub hyphen : ℕ
+hyphen = 45
+
+abbrev pub line_feed : ℕ
+line_feed = 10
+
 -- the byte of a unary operator
 abbrev pub sign : CUn → ℕ
-sign u.Not = 33
-sign u.BitNot = 126
-sign u.Neg = 45
+sign u.Not = exclamation_mark
+sign u.BitNot = tilde
+sign u.Neg = hyphen
 
 abbrev pub operator : CBin → List ℕ
 operator o.Add = codes "+"
@@ -143,9 +156,9 @@ abbrev mutual
 abbrev pub most_height : ℕ
 most_height = 8192
 
--- a number that the text can hold: 32 bits
+-- a number that the text can hold: 32 bits, as a literal with `U`
 abbrev pub is_u32 : ℕ → Bool
-is_u32 n = nat_le n 4294967295
+is_u32 n = nat_le n (most k.U)
 
 -- the names and the numbers of an expression are in range: its literals by their suffix, each name a name, and the
 -- lengths of array types numbers of 32 bits. Empty lists are spelled
@@ -182,16 +195,13 @@ abbrev pub unsigned_constant : List ℕ → ℤ → List ℕ
 unsigned_constant tail (pos n) = decimal n ++ tail
 unsigned_constant tail (negsuc w) = []
 
+-- any number but 0 is true (6.3.1.2)
 abbrev pub bool_constant : ℤ → List ℕ
-bool_constant z = bool_text (is_none_of z)
+bool_constant z = if is_none_of z then codes "false" else codes "true"
   where
     is_none_of : ℤ → Bool
     is_none_of (pos n) = nat_eq n 0
     is_none_of (negsuc n) = false
-
-    bool_text : Bool → List ℕ
-    bool_text true = codes "false"
-    bool_text false = codes "true"
 
 abbrev pub number_constant : CScalar → ℤ → List ℕ
 number_constant t.Bool z = bool_constant z
@@ -233,7 +243,7 @@ abbrev mutual
 -- ---- lines
 
 abbrev pub line : List ℕ → List ℕ
-line bytes = bytes ++ 10 ∷ []
+line bytes = bytes ++ line_feed ∷ []
 
 abbrev pub with_commas : List (List ℕ) → List ℕ
 with_commas [] = []

@@ -46,9 +46,13 @@ size_of ds t = size_or_none (shape_of ds t)
 abbrev pub sizes_or_none : Option Shapes → ℕ
 sizes_or_none s = option_map_or size_of_shapes s 0
 
--- a ring's values, and the four bytes of its index, if it has one
+-- the bytes of a ring's index, an uint32_t
+abbrev pub index_size : ℕ
+index_size = 4
+
+-- a ring's values and its index; a ring without an index is one value, whatever its length says
 abbrev pub ring_storage : List CDef → CRing → ℕ
-ring_storage ds r = r.len * size_of ds r.ty + (if r.indexed then 4 else 0)
+ring_storage ds r = if r.indexed then r.len * size_of ds r.ty + index_size else size_of ds r.ty
 
 -- an extern's copy
 abbrev pub copy_storage : List CDef → CVar → ℕ

@@ -13,13 +13,23 @@ use Rattle.c99_tree.specs.declared.types.CTy.TheVariants as ty
 abbrev pub is_same : List ℕ → List ℕ → Bool
 is_same = pointwise nat_eq
 
-abbrev pub is_digit : ℕ → Bool
-is_digit b = nat_le 48 b && nat_le b 57
+-- the bytes of the digits 0, 1 and 9
+abbrev pub digit_zero : ℕ
+digit_zero = 48
 
--- a decimal from 1 on, without leading zeros, that a name can hold
+abbrev pub digit_one : ℕ
+digit_one = 49
+
+abbrev pub digit_nine : ℕ
+digit_nine = 57
+
+abbrev pub is_digit : ℕ → Bool
+is_digit b = nat_le digit_zero b && nat_le b digit_nine
+
+-- a decimal from 1 on, without leading zeros, of at most 31 digits, as many as a name has bytes
 abbrev pub is_index : List ℕ → Bool
 is_index [] = false
-is_index (b ∷ bs) = nat_le 49 b && list_all is_digit (b ∷ bs) && nat_le (length bs) 30
+is_index (b ∷ bs) = nat_le digit_one b && list_all is_digit (b ∷ bs) && nat_le (length bs) 30
 
 -- the name of a ring: a name, or a decimal from 1 on
 abbrev pub is_ring_name : List ℕ → Bool

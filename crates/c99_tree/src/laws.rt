@@ -11,18 +11,21 @@ pub fn count_is_within_weight()
     ensures { (u : CUnit) (s : Statics) (row : List ℕ) → (step u s row).count ≤ unit_weight_of u }
 {}
 
-/// A run over n rows is a front of the run over one row more.
+/// A run over n rows is a front of the run over one row more. This is a law of how `run_to` goes over the rows, and holds
+/// of any step.
 pub fn run_goes_on()
     ensures { (u : CUnit) (rows : List (List ℕ)) (n : ℕ) → GoesOn n (run u rows n) (run u rows (n + 1)) }
 {}
 
-/// The step of a run reads nothing but the statics that the steps before have left and its own row.
+/// The step of a run reads nothing but the statics that the steps before have left and its own row. This is `run_to` at
+/// one row more, and holds of any step.
 pub fn step_reads_statics_and_row()
     ensures { (u : CUnit) (rows : List (List ℕ)) (n : ℕ) (ran : Ran) → run_to u rows n ≡ Ok ran →
         run_to u rows (n + 1) ≡ with_step n ran.called (step u ran.statics (row_at rows n)).value }
 {}
 
-/// A run over the first n of some rows reads nothing but these n.
+/// A run over the first n of some rows reads nothing but these n. This is a law of how `run_to` goes over the rows, and
+/// holds of any step.
 pub fn run_reads_first_rows()
     ensures { (u : CUnit) (rows others : List (List ℕ)) (n : ℕ) → take n rows ≡ take n others → run u rows n ≡ run u others n }
 {}

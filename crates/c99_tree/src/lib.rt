@@ -9,6 +9,8 @@ mod expr;
 mod heights;
 mod laws;
 mod lookup;
+mod rows;
+mod typed_laws;
 mod types;
 mod typing;
 mod undefined;
@@ -22,6 +24,15 @@ pub use laws::{
 };
 pub use lookup::{
     Named, fields_of, handler_of, has_array, has_struct, is_defined, is_same, ring_of, var_of,
+};
+pub use rows::{
+    conversions_give, each_rule_refuses, objects_give, operators_give, programs_work, rings_take,
+    statements_call, these_have_no_type, undefined_is_met,
+};
+pub use typed_laws::{
+    expressions_find_what_they_name, first_statics_have_their_types, run_respects_types,
+    statements_find_what_they_name, step_respects_types, value_has_its_type, words_give_value_back,
+    words_give_values_of_their_type, words_read_are_those_of_value,
 };
 pub use types::{CDef, CProto, CScalar, CTy, CVar};
 pub use typing::{Kind, fits_in, kind_of, type_of};

@@ -133,7 +133,7 @@ past_room l n (b ∷ x) low room over = at (past_room (l ++ b ∷ []) n x low) (
 
 -- ---- the same, as a push has it
 
-is_at : (f : Feeding) → f.whole ≡ false → f.refusal ≡ None → f ≡ at_line f.line f.number
+pub is_at : (f : Feeding) → f.whole ≡ false → f.refusal ≡ None → f ≡ at_line f.line f.number
 is_at f w r =
     ap (λ v. let g : Feeding = record { line = f.line; number = f.number; whole = v; refusal = f.refusal } in g) w
     ∙ ap (λ o. let g : Feeding = record { line = f.line; number = f.number; whole = false; refusal = o } in g) r

@@ -33,12 +33,12 @@ under-under front back (x ∷ xs) =
 
 -- ---- places
 
-get-append : {X : Type 0} (xs ys : List X) (i : ℕ) → i < length xs → slice_get (xs ++ ys) i ≡ slice_get xs i
+pub get-append : {X : Type 0} (xs ys : List X) (i : ℕ) → i < length xs → slice_get (xs ++ ys) i ≡ slice_get xs i
 get-append [] ys i h = absurd (omega arith)
 get-append (x ∷ xs) ys zero h = refl
 get-append (x ∷ xs) ys (suc i) h = get-append xs ys i (omega arith)
 
-get-last : {X : Type 0} (xs : List X) (x : X) (i : ℕ) → i ≡ length xs → slice_get (xs ++ x ∷ []) i ≡ Some x
+pub get-last : {X : Type 0} (xs : List X) (x : X) (i : ℕ) → i ≡ length xs → slice_get (xs ++ x ∷ []) i ≡ Some x
 get-last [] x zero h = refl
 get-last [] x (suc i) h = absurd (omega arith)
 get-last (y ∷ xs) x zero h = absurd (omega arith)

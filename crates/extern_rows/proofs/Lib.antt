@@ -4,3 +4,11 @@ pub mod Cells
 pub mod FeedStanding
 pub mod RowLines
 pub mod LeafNames
+pub mod RowWords
+pub mod LinesOfRows
+pub mod BehindRows
+pub mod TakenTexts
+pub mod EntryParts
+pub mod ValuePieces
+pub mod FaultLeaves
+pub mod FaultShows

@@ -16,6 +16,10 @@ pub record Columns : Type 0 where
   pub width : ℕ
   pub wanted : List Wanted
 
+-- the scalars that a header's columns are read at
+abbrev pub wanted_scalars : List Wanted → List Scalar
+wanted_scalars wanted = map (λ (w : Wanted). w.scalar) wanted
+
 -- a result put before more of its kind; the first fault stays
 abbrev pub before : {X : Type 0} → Result X RowFault → Result (List X) RowFault → Result (List X) RowFault
 before (Err fault) more = Err fault

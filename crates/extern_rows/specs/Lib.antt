@@ -9,3 +9,7 @@ pub mod SampleRows
 pub mod LeafReading
 pub mod Events
 pub mod Leaves
+pub mod TextRows
+pub mod FeedTexts
+pub mod ValueTexts
+pub mod LeafFaults

@@ -5,6 +5,7 @@ ghost use Rattle.extern_rows.specs.Lines.{is_break, first_line, without_cr};
 ghost use Rattle.extern_rows.specs.Feeding.{start, next_line, fed, pushed};
 ghost use Rattle.extern_rows.specs.FeedLimits.{fault_of};
 ghost use Rattle.extern_rows.specs.FeedStanding.{StandsInTexts, CutsAnywhere, MovesOn};
+ghost use Rattle.extern_rows.specs.FeedTexts.{TookNothing, TakesMore, RefusesMore, NextTakesNothing, FinishesText};
 
 use crate::fault::RowFault;
 use std::alloc::{AllocError, Global};
@@ -180,4 +181,14 @@ pub fn stands_in_texts()
     ensures texts { StandsInTexts }
     ensures cuts { CutsAnywhere }
     ensures next { MovesOn }
+{}
+
+/// What a feed took is a text, which its pushes make longer: some whole lines, then its own line, by its number. Room
+/// for the next line makes no difference, and at the end a last line stands where the text doesn't end in a line feed.
+pub fn feeds_take_texts()
+    ensures new { TookNothing }
+    ensures push { TakesMore }
+    ensures refusal { RefusesMore }
+    ensures next { NextTakesNothing }
+    ensures finish { FinishesText }
 {}

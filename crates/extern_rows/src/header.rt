@@ -1,9 +1,11 @@
 // The columns of a header, and the words of a row.
 ghost use Rattle.std.specs.Prelude.{◌≡◌, ◌<◌, ℕ, List, [], map, length, get_or, bytes_eq, IfOk};
 ghost use Rattle.std.specs.HashMap as hash;
+ghost use Rattle.stream_types.specs.Types.{AreWords};
 ghost use Rattle.csv.specs.Records.{fields_of};
 ghost use Rattle.extern_rows.specs.Fields.{trimmed};
-ghost use Rattle.extern_rows.specs.Columns.{column_of, wanted_at, cell_word, ReadsHeader, ReadsRow};
+ghost use Rattle.extern_rows.specs.Columns.{column_of, wanted_at, wanted_scalars, cell_word, ReadsHeader, ReadsRow};
+ghost use Rattle.extern_rows.specs.Leaves.{scalars_of};
 ghost use Rattle.extern_rows.specs.SampleRows.{RowsByLines, RowsOfRest};
 ghost use Rattle.extern_rows.specs.LeafReading.{seen_at, ReadsWanted, ReadsWords};
 
@@ -147,6 +149,7 @@ impl Header {
         requires { length leaves.now < 4294967296 }
         ensures reads { ReadsHeader leaves.now line.now result }
         ensures count { IfOk result (λ header. length header.wanted ≡ length leaves.now) }
+        ensures scalars { IfOk result (λ header. wanted_scalars header.wanted ≡ scalars_of leaves.now) }
     {
         let record = read_record(alloc, line)?;
         let wanted = find_leaves(alloc, &record, leaves)?;
@@ -160,7 +163,8 @@ impl Header {
     /// type is refused; `out` then holds any words.
     pub fn row(&self, alloc: Global, line: &[u8], out: &mut [u64]) -> Result<(), RowFault>
         requires { length out.old ≡ length self.now.wanted }
-        ensures { ReadsRow self.now line.now out.new result }
+        ensures reads { ReadsRow self.now line.now out.new result }
+        ensures words { IfOk result (λ _. AreWords (wanted_scalars self.now.wanted) out.new) }
     {
         let record = read_record(alloc, line)?;
         if record.len() != self.width {

@@ -2,7 +2,9 @@
 ghost use Rattle.std.specs.Prelude.{◌≡◌, ◌<◌, [], ◌∷◌, false, length, IfOk};
 ghost use Rattle.sm_io.specs.Names.{IsNameBytes};
 
-use crate::{Feed, Header, Leaf, Piece, RowFault, event_line, is_blank, push_leaves};
+use crate::{
+    Feed, Header, Leaf, Piece, RowFault, event_line, is_blank, leaf_name, push_leaves, push_pieces,
+};
 use sm_io::{Name, Text, VecSink};
 use std::alloc::{AllocError, Global};
 use std::test::Fail;
@@ -96,7 +98,7 @@ fn leaf(alloc: Global, name: &str, scalar: Scalar) -> Result<Leaf, AllocError> {
 fn reads_rows_in_pieces_of_any_size(rt: HostRuntime) -> Result<(), Fail> {
     let alloc = rt.alloc();
     let leaves = [leaf(alloc, "temp", Scalar::Int32)?];
-    let cases: [(&str, &str); 17] = [
+    let cases: [(&str, &str); 19] = [
         (
             "temp,site\r\n17,a\r\n\r\n18,b\r\n16,c\r\n 15 ,d\nx,e",
             "17 / 18 / 16 / 15 / BadField(0) at 7",
@@ -117,6 +119,8 @@ fn reads_rows_in_pieces_of_any_size(rt: HostRuntime) -> Result<(), Fail> {
         ("temp,b\n1,2,3\n", "BadRecord at 2"),
         ("temp,b\n1\n", "BadRecord at 2"),
         ("temp\n\"\"\n", "BadField(0) at 2"),
+        ("temp\n\u{FEFF}\n", "BadRecord at 2"),
+        ("\u{FEFF}\ntemp\n", "BadRecord at 1"),
     ];
     for (text, want) in cases {
         for size in SIZES {
@@ -192,6 +196,34 @@ fn names_the_leaves_of_arrays_and_structs(rt: HostRuntime) -> Result<(), Fail> {
         assert!(rt; leaf.name.bytes() == name.as_bytes());
         assert_eq!(rt; leaf.scalar, scalar);
     }
+    assert!(rt; leaf_name(&leaves, &RowFault::BadField(6)) == b"i".as_slice());
+    assert!(rt; leaf_name(&leaves, &RowFault::BadRecord).is_empty());
+    let mut shape = Vec::new(alloc);
+    push_pieces(&types, points, &mut shape)?;
+    let [open, close] = [Piece::Open(b'{'), Piece::Close(b'}')];
+    let [word, comma] = [Piece::Word(Scalar::Int16), Piece::Comma];
+    let want = [
+        Piece::Open(b'['),
+        open,
+        word,
+        comma,
+        word,
+        close,
+        comma,
+        open,
+        word,
+        comma,
+        word,
+        close,
+        comma,
+        open,
+        word,
+        comma,
+        word,
+        close,
+        Piece::Close(b']'),
+    ];
+    assert!(rt; shape.as_slice() == want.as_slice());
     Ok(())
 }
 

@@ -13,6 +13,7 @@ use Rattle.stream_core.specs.declared.spec.TriggerItem.{TriggerItem}
 use Rattle.stream_core.specs.Value.{SpecValue}
 use Rattle.stream_core.specs.Ordered.{all_parts}
 use Rattle.stream_core.specs.Term.{tree, trees, tree_root}
+use Rattle.stream_core.specs.Signature.{signature_of}
 use Rattle.stream_core.specs.WellTyped.{bool, HasType, HasGoodNames, IsName, IsGoodDef, IsGoodTrigger, RootHasType, WellTyped, argument_types}
 use Rattle.stream_core.proofs.Premises.{no_types}
 use Rattle.recursion_check.proofs.Places.{each_of}
@@ -25,58 +26,58 @@ module _ (d : ℕ) where
   s = doubled d
 
   abbrev Typed : ℕ → Node → Type 0
-  Typed i n = (t : Ty) × HasType (trees s) (tree s.nodes [] i) t
+  Typed i n = (t : Ty) × HasType (signature_of (trees s)) (tree s.nodes [] i) t
 
   each_typed : Each s.nodes Typed
   unfolding tree
   each_typed = (
     (bool, (refl, refl)),
     (
-      (word8, record { item = _; is = refl; type_is = refl }),
+      (word8, refl),
       (
-        (word8, (refl, record { item = _; is = refl; type_is = refl }, record { item = _; is = refl; type_is = refl }, refl)),
+        (word8, (refl, refl, refl, refl)),
         (
-          (word8, record { item = _; is = refl; type_is = refl }),
+          (word8, refl),
           (
-            (word8, (refl, record { item = _; is = refl; type_is = refl }, record { item = _; is = refl; type_is = refl }, refl)),
+            (word8, (refl, refl, refl, refl)),
             (
-              (word8, record { item = _; is = refl; type_is = refl }),
+              (word8, refl),
               (
-                (word8, (refl, record { item = _; is = refl; type_is = refl }, record { item = _; is = refl; type_is = refl }, refl)),
+                (word8, (refl, refl, refl, refl)),
                 (
-                  (word8, record { item = _; is = refl; type_is = refl }),
+                  (word8, refl),
                   (
-                    (word8, (refl, record { item = _; is = refl; type_is = refl }, record { item = _; is = refl; type_is = refl }, refl)),
+                    (word8, (refl, refl, refl, refl)),
                     (
-                      (word8, record { item = _; is = refl; type_is = refl }),
+                      (word8, refl),
                       (
-                        (word8, (refl, record { item = _; is = refl; type_is = refl }, record { item = _; is = refl; type_is = refl }, refl)),
+                        (word8, (refl, refl, refl, refl)),
                         (
-                          (word8, record { item = _; is = refl; type_is = refl }),
+                          (word8, refl),
                           (
-                            (word8, (refl, record { item = _; is = refl; type_is = refl }, record { item = _; is = refl; type_is = refl }, refl)),
+                            (word8, (refl, refl, refl, refl)),
                             (
-                              (word8, record { item = _; is = refl; type_is = refl }),
+                              (word8, refl),
                               (
-                                (word8, (refl, record { item = _; is = refl; type_is = refl }, record { item = _; is = refl; type_is = refl }, refl)),
+                                (word8, (refl, refl, refl, refl)),
                                 (
-                                  (word8, record { item = _; is = refl; type_is = refl }),
+                                  (word8, refl),
                                   (
-                                    (word8, (refl, record { item = _; is = refl; type_is = refl }, record { item = _; is = refl; type_is = refl }, refl)),
+                                    (word8, (refl, refl, refl, refl)),
                                     (
-                                      (word8, record { item = _; is = refl; type_is = refl }),
+                                      (word8, refl),
                                       (
-                                        (word8, (refl, record { item = _; is = refl; type_is = refl }, record { item = _; is = refl; type_is = refl }, refl)),
+                                        (word8, (refl, refl, refl, refl)),
                                         (
-                                          (word8, record { item = _; is = refl; type_is = refl }),
+                                          (word8, refl),
                                           (
-                                            (word8, (refl, record { item = _; is = refl; type_is = refl }, record { item = _; is = refl; type_is = refl }, refl)),
+                                            (word8, (refl, refl, refl, refl)),
                                             (
-                                              (word8, record { item = _; is = refl; type_is = refl }),
+                                              (word8, refl),
                                               (
-                                                (word8, (refl, record { item = _; is = refl; type_is = refl }, record { item = _; is = refl; type_is = refl }, refl)),
+                                                (word8, (refl, refl, refl, refl)),
                                                 (
-                                                  (word8, record { item = _; is = refl; type_is = refl }),
+                                                  (word8, refl),
                                                   tt,
                                                 ),
                                               ),
@@ -178,30 +179,30 @@ module _ (d : ℕ) where
     ),
   )
 
-  good_defs : AllByRecursion (IsGoodDef (trees s)) (trees s).defs
+  good_defs : AllByRecursion (IsGoodDef (signature_of (trees s))) (trees s).defs
   unfolding tree
   good_defs = (
-    record { stands = tt; expr = (refl, record { item = _; is = refl; type_is = refl }, record { item = _; is = refl; type_is = refl }, refl) },
+    record { stands = tt; expr = (refl, refl, refl, refl) },
     (
-      record { stands = tt; expr = (refl, record { item = _; is = refl; type_is = refl }, record { item = _; is = refl; type_is = refl }, refl) },
+      record { stands = tt; expr = (refl, refl, refl, refl) },
       (
-        record { stands = tt; expr = (refl, record { item = _; is = refl; type_is = refl }, record { item = _; is = refl; type_is = refl }, refl) },
+        record { stands = tt; expr = (refl, refl, refl, refl) },
         (
-          record { stands = tt; expr = (refl, record { item = _; is = refl; type_is = refl }, record { item = _; is = refl; type_is = refl }, refl) },
+          record { stands = tt; expr = (refl, refl, refl, refl) },
           (
-            record { stands = tt; expr = (refl, record { item = _; is = refl; type_is = refl }, record { item = _; is = refl; type_is = refl }, refl) },
+            record { stands = tt; expr = (refl, refl, refl, refl) },
             (
-              record { stands = tt; expr = (refl, record { item = _; is = refl; type_is = refl }, record { item = _; is = refl; type_is = refl }, refl) },
+              record { stands = tt; expr = (refl, refl, refl, refl) },
               (
-                record { stands = tt; expr = (refl, record { item = _; is = refl; type_is = refl }, record { item = _; is = refl; type_is = refl }, refl) },
+                record { stands = tt; expr = (refl, refl, refl, refl) },
                 (
-                  record { stands = tt; expr = (refl, record { item = _; is = refl; type_is = refl }, record { item = _; is = refl; type_is = refl }, refl) },
+                  record { stands = tt; expr = (refl, refl, refl, refl) },
                   (
-                    record { stands = tt; expr = (refl, record { item = _; is = refl; type_is = refl }, record { item = _; is = refl; type_is = refl }, refl) },
+                    record { stands = tt; expr = (refl, refl, refl, refl) },
                     (
-                      record { stands = tt; expr = (refl, record { item = _; is = refl; type_is = refl }, record { item = _; is = refl; type_is = refl }, refl) },
+                      record { stands = tt; expr = (refl, refl, refl, refl) },
                       (
-                        record { stands = tt; expr = (refl, record { item = _; is = refl; type_is = refl }, record { item = _; is = refl; type_is = refl }, refl) },
+                        record { stands = tt; expr = (refl, refl, refl, refl) },
                         tt,
                       ),
                     ),
@@ -246,7 +247,7 @@ module _ (d : ℕ) where
     alike = λ i j x y e f q. (only i x e).1 ∙ sym (only j y f).1;
   }
 
-  pub doubled_typed : HasType (trees s) (tree s.nodes [] (2 * d + 1)) word8 → WellTyped (doubled d)
+  pub doubled_typed : HasType (signature_of (trees s)) (tree s.nodes [] (2 * d + 1)) word8 → WellTyped (doubled d)
   unfolding tree
   doubled_typed arg = record {
     types = no_types;
@@ -254,8 +255,8 @@ module _ (d : ℕ) where
     nodes = λ i h. let x = get_within s.nodes i h in each_at s.nodes Typed each_typed i x.0 x.1;
     externs = all_by_place (λ (x : ExternItem). Stands [] x.ty) s.externs (tt, tt);
     streams = All-nil _;
-    defs = all_by_place (IsGoodDef (trees s)) (trees s).defs good_defs;
-    triggers = all_by_place (IsGoodTrigger (trees s)) (trees s).triggers (record { guard = (refl, refl); truth = refl; args = all_by_place (RootHasType (trees s)) (tree_root (tree s.nodes []) (record { expr = 2 * d + 1; ty = word8; at = 200 }) ∷ []) (arg, tt); few = omega arith }, tt);
+    defs = all_by_place (IsGoodDef (signature_of (trees s))) (trees s).defs good_defs;
+    triggers = all_by_place (IsGoodTrigger (signature_of (trees s))) (trees s).triggers (record { guard = (refl, refl); truth = refl; args = all_by_place (RootHasType (signature_of (trees s))) (tree_root (tree s.nodes []) (record { expr = 2 * d + 1; ty = word8; at = 200 }) ∷ []) (arg, tt); few = omega arith }, tt);
     observers = All-nil _;
     libs = All-nil _;
     names = good_names;
@@ -263,8 +264,8 @@ module _ (d : ℕ) where
 
 pub ten : WellTyped (doubled 10)
 unfolding tree
-ten = doubled_typed 10 (record { item = _; is = refl; type_is = refl })
+ten = doubled_typed 10 refl
 
 pub eleven : WellTyped (doubled 11)
 unfolding tree
-eleven = doubled_typed 11 (record { item = _; is = refl; type_is = refl })
+eleven = doubled_typed 11 refl

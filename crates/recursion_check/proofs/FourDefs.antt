@@ -8,6 +8,7 @@ use Rattle.stream_core.specs.declared.spec.DefItem.{DefItem}
 use Rattle.stream_core.specs.Value.{SpecValue}
 use Rattle.stream_core.specs.Ordered.{all_parts}
 use Rattle.stream_core.specs.Term.{tree, trees, tree_def}
+use Rattle.stream_core.specs.Signature.{signature_of}
 use Rattle.stream_core.specs.WellTyped.{bool, HasType, HasGoodNames, IsName, IsGoodDef, WellTyped}
 use Rattle.stream_core.proofs.Premises.{no_types}
 use Rattle.recursion_check.specs.TestSpecs.{five_nodes, bool_def, four_defs}
@@ -18,13 +19,13 @@ module _ (a b c d : ℕ) (pa : a ≤ 4) (pb : b ≤ 4) (pc : c ≤ 4) (pd : d �
   abbrev s : SpecValue
   s = four_defs a b c d
 
-  typed : (i : ℕ) → i < 5 → HasType (trees s) (tree five_nodes [] i) bool
+  typed : (i : ℕ) → i < 5 → HasType (signature_of (trees s)) (tree five_nodes [] i) bool
   unfolding tree
   typed zero h = (refl, refl)
-  typed (suc zero) h = record { item = _; is = refl; type_is = refl }
-  typed (suc (suc zero)) h = record { item = _; is = refl; type_is = refl }
-  typed (suc (suc (suc zero))) h = record { item = _; is = refl; type_is = refl }
-  typed (suc (suc (suc (suc zero)))) h = record { item = _; is = refl; type_is = refl }
+  typed (suc zero) h = refl
+  typed (suc (suc zero)) h = refl
+  typed (suc (suc (suc zero))) h = refl
+  typed (suc (suc (suc (suc zero)))) h = refl
   typed (suc (suc (suc (suc (suc i))))) h = absurd (omega (arith, h))
 
   nowhere : {A : Type 0} (i : ℕ) (x : A) → slice_get [] i ≡ Some x → ⊥
@@ -45,7 +46,7 @@ module _ (a b c d : ℕ) (pa : a ≤ 4) (pb : b ≤ 4) (pc : c ≤ 4) (pd : d �
     alike = λ i j x y e f n. absurd (nowhere i x e);
   }
 
-  good : (i : ℕ) → i ≤ 4 → (letter at : ℕ) → IsGoodDef (trees s) (tree_def (tree five_nodes []) (bool_def letter i at))
+  good : (i : ℕ) → i ≤ 4 → (letter at : ℕ) → IsGoodDef (signature_of (trees s)) (tree_def (tree five_nodes []) (bool_def letter i at))
   good i h letter at = record { stands = tt; expr = typed i (omega (arith, h)) }
 
   pub four_typed : WellTyped (four_defs a b c d)
@@ -55,7 +56,7 @@ module _ (a b c d : ℕ) (pa : a ≤ 4) (pb : b ≤ 4) (pc : c ≤ 4) (pd : d �
     nodes = λ i h. (bool, typed i h);
     externs = All-nil _;
     streams = All-nil _;
-    defs = all_by_place (IsGoodDef (trees s)) (trees s).defs (good a pa 97 8, (good b pb 98 23, (good c pc 99 38, (good d pd 100 53, tt))));
+    defs = all_by_place (IsGoodDef (signature_of (trees s))) (trees s).defs (good a pa 97 8, (good b pb 98 23, (good c pc 99 38, (good d pd 100 53, tt))));
     triggers = All-nil _;
     observers = All-nil _;
     libs = All-nil _;

@@ -19,7 +19,6 @@ use Rattle.stream_core.specs.Weights.{heavy, heaviest_buffer, IsGoodItem}
 use Rattle.stream_core.proofs.FormWeights.{over, buffers_are}
 use Rattle.stream_core.proofs.Roots.{items_good}
 use Rattle.stream_core.proofs.WholeWeight.{at, low, G, root_is, args_are, trigger_tree, trigger_with, observer_tree, observer_with, stream_tree, stream_with, lib_tree}
-use Rattle.recursion_check.specs.Walked.{lesser}
 use Rattle.recursion_check.specs.Loads.{load, roots_of, triggers_of, observers_of, streams_of, least_heavy, first_form, or_form, first_heavy}
 use Rattle.recursion_check.proofs.Counting.{args_count}
 
@@ -45,10 +44,6 @@ least_none (x ∷ xs) ys = by (nat_lt 2048 x.heavy) (least_none xs ys)
     by : (t : Bool) → or_form (least_heavy None xs) (first_of ys) ≡ first_of_heavy (heavy_places xs) ys → or_form (least_heavy (if t then Some x.at else None) xs) (first_of ys) ≡ first_of_heavy (if t then x.at ∷ heavy_places xs else heavy_places xs) ys
     by true p = ap (λ o. or_form o (first_of ys)) (least_some xs x.at)
     by false p = p
-
-pub least_append : (xs ys : List Load) (first : Option ℕ) → least_heavy (least_heavy first xs) ys ≡ least_heavy first (xs ++ ys)
-least_append [] ys first = refl
-least_append (x ∷ xs) ys first = least_append xs ys (if nat_lt 2048 x.heavy then lesser first x.at else first)
 
 -- ---- lists
 

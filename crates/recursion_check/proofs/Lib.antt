@@ -11,3 +11,8 @@ pub mod FourDefs
 pub mod Many
 pub mod Doubled
 pub mod Grows
+pub mod Lighter
+pub mod PlaceWeights
+pub mod Settling
+pub mod Tallied
+pub mod FormsKnown

@@ -8,6 +8,7 @@ use Rattle.stream_core.specs.declared.spec.TriggerItem.{TriggerItem}
 use Rattle.stream_core.specs.Value.{SpecValue}
 use Rattle.stream_core.specs.Ordered.{all_parts}
 use Rattle.stream_core.specs.Term.{TreeTrigger, tree, trees, tree_root}
+use Rattle.stream_core.specs.Signature.{signature_of}
 use Rattle.stream_core.specs.WellTyped.{bool, HasType, HasGoodNames, IsName, IsGoodTrigger, WellTyped, argument_types}
 use Rattle.stream_core.proofs.Premises.{no_types}
 use Rattle.recursion_check.specs.TestSpecs.{yes_node, bare_trigger, many}
@@ -17,7 +18,7 @@ module _ (n : ℕ) where
   abbrev s : SpecValue
   s = many n
 
-  typed : (i : ℕ) → i < 1 → HasType (trees s) (tree (yes_node ∷ []) [] i) bool
+  typed : (i : ℕ) → i < 1 → HasType (signature_of (trees s)) (tree (yes_node ∷ []) [] i) bool
   unfolding tree
   typed zero h = (refl, refl)
   typed (suc i) h = absurd (omega (arith, h))
@@ -51,7 +52,7 @@ module _ (n : ℕ) where
     externs = All-nil _;
     streams = All-nil _;
     defs = All-nil _;
-    triggers = all_copies (IsGoodTrigger (trees s)) trigger_tree (bare_trigger []) (record { guard = typed 0 (omega arith); truth = refl; args = All-nil _; few = omega arith }) n;
+    triggers = all_copies (IsGoodTrigger (signature_of (trees s))) trigger_tree (bare_trigger []) (record { guard = typed 0 (omega arith); truth = refl; args = All-nil _; few = omega arith }) n;
     observers = All-nil _;
     libs = All-nil _;
     names = good_names;

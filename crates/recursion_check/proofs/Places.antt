@@ -128,7 +128,7 @@ module _ (s : SpecValue) where
   node_joins (node.Def d) w (inr h) = absurd h
   node_joins n w h = inr (has_map D (all_parts s.libs n) w h)
 
-  part_joins : (n : Node) (j : ℕ) → Has (all_parts s.libs n) j → Has (node_next s (Some n)) (D + j)
+  pub part_joins : (n : Node) (j : ℕ) → Has (all_parts s.libs n) j → Has (node_next s (Some n)) (D + j)
   part_joins (node.Def d) j h = absurd h
   part_joins n j h = map_has D (all_parts s.libs n) j h
 
@@ -140,12 +140,12 @@ module _ (s : SpecValue) where
   unfolding next
   next_node v b = ap (def_next s v) (slice_get_past s.defs v b)
 
-  next_at : (i : ℕ) → next s (D + i) ≡ node_next s (slice_get s.nodes i)
+  pub next_at : (i : ℕ) → next s (D + i) ≡ node_next s (slice_get s.nodes i)
   next_at i = next_node (D + i) (omega arith) ∙ ap (λ k. node_next s (slice_get s.nodes k)) (let e : D + i - D ≡ i = omega arith in e)
 
   module _ (w : WellTyped s) where
     -- where a def or a node leads
-    abbrev Way : ℕ → ℕ → Type 0
+    abbrev pub Way : ℕ → ℕ → Type 0
     Way v x = ((y : DefItem) × (slice_get s.defs v ≡ Some y) × (D + y.expr ≡ x)) ⊎ ((i : ℕ) × (D + i ≡ v) × ((n : Node) × (slice_get s.nodes i ≡ Some n) × ((n ≡ node.Def x) ⊎ ((j : ℕ) × Has (all_parts s.libs n) j × (D + j ≡ x)))))
 
     by_node : (i x : ℕ) (o : Option Node) → slice_get s.nodes i ≡ o → Has (node_next s o) x → (n : Node) × (slice_get s.nodes i ≡ Some n) × ((n ≡ node.Def x) ⊎ ((j : ℕ) × Has (all_parts s.libs n) j × (D + j ≡ x)))
@@ -156,14 +156,14 @@ module _ (s : SpecValue) where
     sole a x (inl e) = e
     sole a x (inr h) = absurd h
 
-    way : (v x : ℕ) → Joins s v x → Way v x
+    pub way : (v x : ℕ) → Joins s v x → Way v x
     way v x h =
         ⊎_elim
         (λ less. let y = get_within s.defs v less in inl (y.0, y.1, sole (D + y.0.expr) x (subst (λ xs. Has xs x) (next_def v y.0 y.1) h)))
         (λ ge. inr (v - D, omega (arith, ge), by_node (v - D) x (slice_get s.nodes (v - D)) refl (subst (λ xs. Has xs x) (next_node v ge) h)))
         (cases_lt v D)
 
-    there_def : (i d : ℕ) (n : Node) → slice_get s.nodes i ≡ Some n → n ≡ node.Def d → d < D
+    pub there_def : (i d : ℕ) (n : Node) → slice_get s.nodes i ≡ Some n → n ≡ node.Def d → d < D
     there_def i d n e is = defs_there s w i (node.Def d) (e ∙ ap Some is)
 
     below_part : (i j : ℕ) (n : Node) → slice_get s.nodes i ≡ Some n → Has (all_parts s.libs n) j → j < i

@@ -1,5 +1,6 @@
 pub mod Graph
 pub mod Walked
+pub mod Weighed
 pub mod Counted
 pub mod Loads
 pub mod Judged

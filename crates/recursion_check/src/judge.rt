@@ -7,9 +7,10 @@ ghost use Rattle.recursion_check.specs.Judged.{HasOneTable, IsFault, Judges};
 
 use crate::accepted::Sound;
 use crate::fault::SoundFault;
-use crate::roots::heavy_root;
+use crate::roots::weigh_roots;
 use crate::sizes::{declarations, words};
 use crate::walk::first_on_cycle;
+use crate::weigh::node_weights;
 use std::alloc::{AllocError, Global};
 use stream_core::{Spec, equations_have_one_solution};
 
@@ -34,7 +35,7 @@ fn first_fault(alloc: Global, spec: &Spec) -> Option<SoundFault>
     match first_cycle(alloc, spec) {
         Err(_) => Some(SoundFault::Memory),
         Ok(Some(at)) => Some(SoundFault::Cycle(at)),
-        Ok(None) => first_excess(spec),
+        Ok(None) => first_excess(alloc, spec),
     }
 }
 
@@ -50,7 +51,7 @@ fn first_cycle(alloc: Global, spec: &Spec) -> Result<Option<u64>, AllocError>
 }
 
 // The first limit that a specification without cycles exceeds.
-fn first_excess(spec: &Spec) -> Option<SoundFault>
+fn first_excess(alloc: Global, spec: &Spec) -> Option<SoundFault>
     requires typed { WellTyped spec.now }
     requires no_cycle { HasNoCycle (defs_of spec.now) }
     ensures { IsFault spec.now result }
@@ -61,10 +62,14 @@ fn first_excess(spec: &Spec) -> Option<SoundFault>
     if words(spec) > 262_144 {
         return Some(SoundFault::TooManyWords);
     }
-    if let Some(at) = heavy_root(spec) {
+    let Ok(weights) = node_weights(alloc, spec) else {
+        return Some(SoundFault::Memory);
+    };
+    let roots = weigh_roots(spec, weights.as_slice());
+    if let Some(at) = roots.first {
         return Some(SoundFault::RootTooHeavy(at));
     }
-    if spec.weight() > 262_144 {
+    if roots.total > 262_144 {
         return Some(SoundFault::SpecTooHeavy);
     }
     None

@@ -11,6 +11,7 @@ mod judge;
 mod roots;
 mod sizes;
 mod walk;
+mod weigh;
 
 pub use accepted::Sound;
 pub use fault::SoundFault;

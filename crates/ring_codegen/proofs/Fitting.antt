@@ -7,6 +7,7 @@ use Rattle.std.proofs.lemmas.Bool.{and_parts, ltb-true, leb-true}
 use Rattle.std.proofs.lemmas.List.{length-map}
 use Rattle.std.proofs.lemmas.Option.{slice_get-map}
 use Rattle.sm_io.specs.Words.{is_name, reserved, limit_fronts, limit_ends}
+use Rattle.stream_types.specs.declared.scalar.Ty.{Ty}
 use Rattle.stream_types.specs.TypeList.{Stands, IsTypeList}
 use Rattle.stream_types.specs.declared.types.TypeEntry.{TypeEntry}
 use Rattle.stream_core.specs.declared.node.Node.{Node}
@@ -18,6 +19,7 @@ use Rattle.stream_core.specs.declared.spec.Item.{Item}
 use Rattle.stream_core.specs.Ordered.{all_parts}
 use Rattle.stream_core.specs.Stored.{IsPlaced, HasRoom}
 use Rattle.stream_core.specs.Term.{Term, TreeTrigger, tree, tree_root, trees}
+use Rattle.stream_core.specs.Signature.{signature_of}
 use Rattle.stream_core.specs.WellTyped.{bool, HasType, IsGoodTrigger, HasGoodNames, WellTyped, declared_names, argument_types}
 use Rattle.stream_core.specs.Soundness.{total_words}
 use Rattle.c99_tree.specs.Words.{is_same}
@@ -143,12 +145,13 @@ module _ (name : List ℕ) (names : List (List ℕ)) (reads : List ℕ) (trigger
   abbrev spec : SpecValue
   spec = bare_spec name names reads triggers
 
-  node_typed : (i : ℕ) → i < length reads → HasType (trees spec) (tree spec.nodes [] i) bool
+  node_typed : (i : ℕ) → i < length reads → HasType (signature_of (trees spec)) (tree spec.nodes [] i) bool
   node_typed i b =
+      let extern_ty : ExternItem → Ty = λ (x : ExternItem). x.ty in
       let node = node_reads reads i b in
       let at = get_within names node.0 (ltb-true node.0 (length names) (by_place (λ k. nat_lt k (length names) ≡ true) reads i node.0 f.below node.1)) in
-      subst (λ (t : Term). HasType (trees spec) t bool) (sym (expr-is spec.nodes [] i node.0 node.2))
-      (record { item = bool_item at.0; is = slice_get-map bool_item names node.0 ∙ ap (option_map bool_item) at.1; type_is = refl })
+      subst (λ (t : Term). HasType (signature_of (trees spec)) t bool) (sym (expr-is spec.nodes [] i node.0 node.2))
+      (slice_get-map extern_ty (map bool_item names) node.0 ∙ ap (option_map extern_ty) (slice_get-map bool_item names node.0 ∙ ap (option_map bool_item) at.1))
 
   declared-is : declared_names spec ≡ names
   declared-is =
@@ -181,9 +184,9 @@ module _ (name : List ℕ) (names : List (List ℕ)) (reads : List ℕ) (trigger
     externs = all_by_place (λ (x : ExternItem). Stands [] x.ty) (map bool_item names) (all_stand names);
     streams = none _;
     defs = none _;
-    triggers = all_by_place (IsGoodTrigger (trees spec)) (trees spec).triggers
-        (each_map (λ (x : TriggerItem). IsGoodTrigger (trees spec) (root x)) (IsGoodTrigger (trees spec)) root (λ x h. h) (map bare_trigger triggers)
-        (each_map (λ x. is_fit names (length reads) x ≡ true) (λ (x : TriggerItem). IsGoodTrigger (trees spec) (root x)) bare_trigger
+    triggers = all_by_place (IsGoodTrigger (signature_of (trees spec))) (trees spec).triggers
+        (each_map (λ (x : TriggerItem). IsGoodTrigger (signature_of (trees spec)) (root x)) (IsGoodTrigger (signature_of (trees spec))) root (λ x h. h) (map bare_trigger triggers)
+        (each_map (λ x. is_fit names (length reads) x ≡ true) (λ (x : TriggerItem). IsGoodTrigger (signature_of (trees spec)) (root x)) bare_trigger
         (λ x h. record { guard = node_typed x.guard (fit_trigger names (length reads) x h).there; truth = refl; args = none _; few = zero-le }) triggers f.fit));
     observers = none _;
     libs = none _;

@@ -22,6 +22,7 @@ use Rattle.stream_core.specs.declared.spec.DefItem.{DefItem}
 use Rattle.stream_core.specs.declared.spec.ObserverItem.{ObserverItem}
 use Rattle.stream_core.specs.Value.{SpecValue}
 use Rattle.stream_core.specs.Term.{Term, extern, TreeSpec, TreeTrigger, build_at, tree_to, tree, tree_root, root_with, trees, written_out}
+use Rattle.stream_core.specs.Signature.{extern_types, signature_of}
 use Rattle.stream_core.specs.WellTyped.{HasType, IsGoodTrigger, WellTyped}
 use Rattle.stream_core.specs.Soundness.{total_words}
 use Rattle.stream_core.specs.Handlers as called
@@ -109,17 +110,19 @@ few_externs s b few = let w = words-are s b in let l = length-map s.externs (λ 
 
 -- ---- its guards
 
-has_guard : (s : SpecValue) (x : TriggerItem) → IsBuiltTrigger s.nodes x → HasType (trees s) (tree s.nodes s.libs x.guard.expr) x.guard.ty → HasGuard s x
+has_guard : (s : SpecValue) (x : TriggerItem) → IsBuiltTrigger s.nodes x → HasType (signature_of (trees s)) (tree s.nodes s.libs x.guard.expr) x.guard.ty → HasGuard s x
 has_guard s x b typed =
-    let there = subst (λ (t : Term). HasType (trees s) t x.guard.ty) (expr-is s.nodes s.libs x.guard.expr b.guard.0 b.guard.1) typed in
+    let there = subst (λ (t : Term). HasType (signature_of (trees s)) t x.guard.ty) (expr-is s.nodes s.libs x.guard.expr b.guard.0 b.guard.1) typed in
     let read : b.guard.0 ≡ extern_read (slice_get s.nodes x.guard.expr) = sym (ap extern_read b.guard.1) in
-    record { reads = b.guard; there = subst (λ (k : ℕ). k < length s.externs) read (slice_get_within s.externs b.guard.0 there.item there.is) }
+    let within = slice_get_within (extern_types s.externs) b.guard.0 x.guard.ty there in
+    let l : length (extern_types s.externs) ≡ length s.externs = length-map s.externs (λ (y : ExternItem). y.ty) in
+    record { reads = b.guard; there = subst (λ (k : ℕ). k < length s.externs) read (omega (arith, within, l)) }
 
 guards_there : (s : SpecValue) → IsBuilt s → WellTyped s → AllByRecursion (HasGuard s) s.triggers
 guards_there s b typed =
     let root : TriggerItem → TreeTrigger = λ (x : TriggerItem). record { name = x.name; guard = tree_root (tree s.nodes s.libs) x.guard; args = map (tree_root (tree s.nodes s.libs)) x.args } in
-    let good = of_map (IsGoodTrigger (trees s)) root s.triggers (by_recursion (IsGoodTrigger (trees s)) (trees s).triggers typed.triggers) in
-    each_two (IsBuiltTrigger s.nodes) (λ (x : TriggerItem). IsGoodTrigger (trees s) (root x)) (HasGuard s) (λ x built fine. has_guard s x built fine.guard) s.triggers
+    let good = of_map (IsGoodTrigger (signature_of (trees s))) root s.triggers (by_recursion (IsGoodTrigger (signature_of (trees s))) (trees s).triggers typed.triggers) in
+    each_two (IsBuiltTrigger s.nodes) (λ (x : TriggerItem). IsGoodTrigger (signature_of (trees s)) (root x)) (HasGuard s) (λ x built fine. has_guard s x built fine.guard) s.triggers
     (by_recursion (IsBuiltTrigger s.nodes) s.triggers b.triggers) good
 
 pub guards_are : (s : SpecValue) → IsBuilt s → WellTyped s → All (HasGuard s) s.triggers

@@ -1,5 +1,5 @@
 -- Elements of lists by their places.
-use Rattle.std.proofs.Common.{◌≡◌, ℕ, zero, suc, ◌+◌, ◌<◌, List, [], ◌∷◌, ◌++◌, length, map, Option, Some, refl, ap, arith}
+use Rattle.std.proofs.Common.{◌≡◌, ℕ, zero, suc, ◌<◌, List, [], ◌∷◌, ◌++◌, length, map, Some, refl, ap, arith}
 use Rattle.std.specs.Prelude.{slice_get, All}
 use Rattle.std.specs.List.{AllByRecursion}
 

@@ -4,3 +4,4 @@ pub mod Shelves
 pub mod Written
 pub mod Truths
 pub mod Elements
+pub mod Transfers

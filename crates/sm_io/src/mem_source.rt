@@ -1,7 +1,7 @@
 // A source in memory.
 ghost use Rattle.std.specs.Prelude.{◌≡◌, ◌≤◌, length, take, drop, ◌++◌, min, OnErr, IfOk, Some, true, false, MatchResult};
 ghost use Rattle.std.specs.Io.{ReadsAtMost};
-ghost use Rattle.sm_io.specs.Causes.{HasCause};
+ghost use Rattle.sm_io.specs.Causes.{HasCause, one_more};
 ghost use Rattle.sm_io.specs.Known.{Reads, EndsWell};
 ghost use Rattle.sm_io.specs.Memory.{is_failing, given, after_read, after_failed_read};
 
@@ -63,11 +63,14 @@ impl Source for MemSource {
 
     ghost faults = { λ s. s.faults };
 
+    ghost reads = { λ s. Some s.calls };
+
     fn read(&mut self, buf: &mut [u8]) -> Result<usize, Failed>
         ensures bound { ReadsAtMost result buf.new }
         ensures bytes { Reads (Some self.old.left) (Some self.new.left) result buf.new }
         ensures end { EndsWell (Some self.new.left) result buf.new }
         ensures cause { HasCause self.old.faults self.new.faults result }
+        ensures counted { Some self.new.calls ≡ one_more (Some self.old.calls) }
         ensures numbered { MatchResult result (λ _. is_failing self.old.fails self.old.calls ≡ false) (λ _. is_failing self.old.fails self.old.calls ≡ true) }
         ensures ok { IfOk result (λ n. (n ≡ given self.old (length buf.old)) × (self.new ≡ after_read self.old (length buf.old))) }
         ensures err { OnErr result (self.new ≡ after_failed_read self.old) }

@@ -2,7 +2,7 @@
 ghost use Rattle.std.specs.Prelude.{◌≡◌, ◌<◌, ◌≤◌, List, ℕ, Option, length, drop, IfOk, OnOk, OnErr, IfSome, IsErrOf, is_ok, vec_len};
 ghost use Rattle.std.specs.List.{flat_map};
 ghost use Rattle.std.specs.Io.{ReadsAtMost, WritesAtMost};
-ghost use Rattle.sm_io.specs.Causes.{HasCause, Rose};
+ghost use Rattle.sm_io.specs.Causes.{HasCause, Rose, one_more};
 ghost use Rattle.sm_io.specs.Fetch.{fetch_fault_code};
 ghost use Rattle.sm_io.specs.Known.{Reads, EndsWell, Writes};
 ghost use Rattle.sm_io.specs.Written.{WritesText};
@@ -42,8 +42,8 @@ impl FetchFault {
     }
 }
 
-/// Where bytes come from. Whether it tells the bytes that are left never changes, and its count of faults never
-/// falls, and stays where the answer is `Ok`.
+/// Where bytes come from. Whether it tells the bytes that are left never changes. Its count of faults never falls,
+/// and stays where the answer is `Ok`. Each read is counted, where it tells that.
 pub trait Source {
     /// The bytes that are left, where it tells them.
     ghost left: { Self → Option (List ℕ) };
@@ -51,13 +51,17 @@ pub trait Source {
     /// How often it has failed.
     ghost faults: { Self → ℕ };
 
+    /// How often it was read, where it tells that.
+    ghost reads: { Self → Option ℕ };
+
     /// Gives the next `n` bytes, as the first `n` of the buffer; none into a buffer with room is the end of input.
     /// `Failed` comes only where the count rose, and takes no byte.
     fn read(&mut self, buf: &mut [u8]) -> Result<usize, Failed>
         ensures bound { ReadsAtMost result buf.new }
         ensures bytes { Reads (left self.old) (left self.new) result buf.new }
         ensures end { EndsWell (left self.new) result buf.new }
-        ensures cause { HasCause (faults self.old) (faults self.new) result };
+        ensures cause { HasCause (faults self.old) (faults self.new) result }
+        ensures counted { reads self.new ≡ one_more (reads self.old) };
 }
 
 /// Where bytes go to. Whether it tells the bytes that it took never changes, and its count of faults never falls,
@@ -129,13 +133,14 @@ pub fn write_parts<K: Sink>(sink: &mut K, parts: &[&[u8]]) -> Result<(), Failed>
     Ok(())
 }
 
-/// One read into a buffer with room.
+/// Exactly one read, into a buffer with room.
 pub fn read_some<S: Source>(source: &mut S, buf: &mut [u8]) -> Result<usize, Failed>
     requires { 0 < length buf.old }
     ensures bound { ReadsAtMost result buf.new }
     ensures bytes { Reads (S.left source.old) (S.left source.new) result buf.new }
     ensures end { EndsWell (S.left source.new) result buf.new }
     ensures cause { HasCause (S.faults source.old) (S.faults source.new) result }
+    ensures one { S.reads source.new ≡ one_more (S.reads source.old) }
 {
     source.read(buf)
 }

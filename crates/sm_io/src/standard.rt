@@ -1,13 +1,19 @@
-// The real outside: standard streams and the current folder. They tell no content.
+// The real outside: standard streams and the current folder. What their readers and writers tell, the adapters' calls
+// keep to; of the real ones std tells no content.
 //
 // A call of std that was interrupted is made again and counts as no fault, and neither does an absent file. Every
 // other error of std raises the count by one.
-ghost use Rattle.std.specs.Prelude.{◌≡◌, ◌≤◌, IfOk, None, vec_len};
+ghost use Rattle.std.specs.Prelude.{◌≡◌, ◌<◌, ◌≤◌, length, IfOk, None, vec_len};
+ghost use Rattle.std.specs.Io.{ReadsAtMost, WritesAtMost};
+ghost use Rattle.std.specs.Io.KnownBytes.{ReadConsumes, WriteAppends};
+ghost use Rattle.sm_io.specs.Causes.{HasCause, one_more};
+ghost use Rattle.sm_io.specs.Known.{Reads, EndsWell, Writes};
 
 use crate::outside::{Failed, FetchFault, Shelf, Sink, Source};
+use crate::streams::{opening_fault, read_once, read_whole, write_once, write_whole};
 use std::alloc::Global;
 use std::fs;
-use std::io::{ErrorKind, Read, Write};
+use std::io::{Read, Write};
 use std::rt::Files;
 
 /// A reader of std as a source.
@@ -20,7 +26,8 @@ pub struct StdSource<R: Read> {
 impl<R: Read> StdSource<R> {
     /// The source over a reader, without a fault so far.
     pub fn new(reader: R) -> StdSource<R>
-        ensures { result.faults ≡ 0 }
+        ensures faults { result.faults ≡ 0 }
+        ensures reader { result.reader ≡ reader }
     {
         StdSource { reader, faults: 0 }
     }
@@ -31,16 +38,21 @@ impl<R: Read> Source for StdSource<R> {
 
     ghost faults = { λ s. s.faults };
 
-    fn read(&mut self, buf: &mut [u8]) -> Result<usize, Failed> {
-        for _ in 0..u64::MAX {
-            match self.reader.read(buf) {
-                Ok(count) => return Ok(count),
-                Err(e) if e.kind() == ErrorKind::Interrupted => {}
-                Err(_) => break,
-            }
+    ghost reads = { λ _. None };
+
+    fn read(&mut self, buf: &mut [u8]) -> Result<usize, Failed>
+        ensures bound { ReadsAtMost result buf.new }
+        ensures bytes { Reads None None result buf.new }
+        ensures end { EndsWell None result buf.new }
+        ensures cause { HasCause self.old.faults self.new.faults result }
+        ensures counted { one_more None ≡ None }
+        ensures inner { ReadConsumes (R.remaining self.old.reader) (R.remaining self.new.reader) result buf.new }
+    {
+        let result = read_once(&mut self.reader, buf);
+        if result.is_err() {
+            self.faults = self.faults.saturating_add(1);
         }
-        self.faults = self.faults.saturating_add(1);
-        Err(Failed)
+        result
     }
 }
 
@@ -54,7 +66,8 @@ pub struct StdSink<W: Write> {
 impl<W: Write> StdSink<W> {
     /// The sink over a writer, without a fault so far.
     pub fn new(writer: W) -> StdSink<W>
-        ensures { result.faults ≡ 0 }
+        ensures faults { result.faults ≡ 0 }
+        ensures writer { result.writer ≡ writer }
     {
         StdSink { writer, faults: 0 }
     }
@@ -65,16 +78,18 @@ impl<W: Write> Sink for StdSink<W> {
 
     ghost faults = { λ s. s.faults };
 
-    fn write(&mut self, bytes: &[u8]) -> Result<usize, Failed> {
-        for _ in 0..u64::MAX {
-            match self.writer.write(bytes) {
-                Ok(count) if count > 0 || bytes.is_empty() => return Ok(count),
-                Err(e) if e.kind() == ErrorKind::Interrupted => {}
-                _ => break,
-            }
+    fn write(&mut self, bytes: &[u8]) -> Result<usize, Failed>
+        ensures bound { WritesAtMost result bytes.now }
+        ensures some { IfOk result (λ n. 0 < length bytes.now → 0 < n) }
+        ensures bytes { Writes None None result bytes.now }
+        ensures cause { HasCause self.old.faults self.new.faults result }
+        ensures inner { WriteAppends (W.contents self.old.writer) (W.contents self.new.writer) result bytes.now }
+    {
+        let result = write_once(&mut self.writer, bytes);
+        if result.is_err() {
+            self.faults = self.faults.saturating_add(1);
         }
-        self.faults = self.faults.saturating_add(1);
-        Err(Failed)
+        result
     }
 }
 
@@ -94,42 +109,19 @@ impl<R: Files> DirShelf<R> {
     }
 }
 
-// Why a file was not read.
-enum Unread {
-    Missing,
-    TooLong,
-    Failed,
-    Memory,
-}
-
-// Reads a file to its end, or one byte past the limit.
-fn read_file<R: Files>(alloc: Global, rt: &R, name: &str, limit: usize) -> Result<Vec<u8>, Unread>
+// Reads a whole file.
+fn read_file<R: Files>(
+    alloc: Global,
+    rt: &R,
+    name: &str,
+    limit: usize,
+) -> Result<Vec<u8>, FetchFault>
     ensures { IfOk result (λ bytes. vec_len bytes ≤ limit) }
 {
-    let mut file = match fs::open(rt, name) {
-        Ok(file) => file,
-        Err(e) if e.kind() == ErrorKind::NotFound => return Err(Unread::Missing),
-        Err(_) => return Err(Unread::Failed),
-    };
-    let mut bytes = Vec::new(alloc);
-    let mut buf = [0u8; 4096];
-    for _ in 0..u64::MAX {
-        let room = (limit - bytes.len()).saturating_add(1).min(4096);
-        match file.read(&mut buf[..room]) {
-            Ok(0) => return Ok(bytes),
-            Ok(count) => {
-                if count > limit - bytes.len() {
-                    return Err(Unread::TooLong);
-                }
-                if bytes.extend_from_slice(&buf[..count]).is_err() {
-                    return Err(Unread::Memory);
-                }
-            }
-            Err(e) if e.kind() == ErrorKind::Interrupted => {}
-            Err(_) => return Err(Unread::Failed),
-        }
+    match fs::open(rt, name) {
+        Ok(mut file) => read_whole(alloc, &mut file, limit),
+        Err(e) => Err(opening_fault(&e)),
     }
-    Err(Unread::Failed)
 }
 
 // Replaces a whole file.
@@ -137,19 +129,7 @@ fn write_file<R: Files>(rt: &R, name: &str, bytes: &[u8]) -> Result<(), Failed> 
     let Ok(mut file) = fs::create(rt, name) else {
         return Err(Failed);
     };
-    let mut rest = bytes;
-    for _ in 0..u64::MAX {
-        if rest.is_empty() {
-            return Ok(());
-        }
-        match file.write(rest) {
-            Ok(0) => return Err(Failed),
-            Ok(count) => rest = &rest[count..],
-            Err(e) if e.kind() == ErrorKind::Interrupted => {}
-            Err(_) => return Err(Failed),
-        }
-    }
-    Err(Failed)
+    write_whole(&mut file, bytes)
 }
 
 impl<R: Files> Shelf for DirShelf<R> {
@@ -158,25 +138,18 @@ impl<R: Files> Shelf for DirShelf<R> {
     ghost faults = { λ s. s.faults };
 
     fn fetch(&mut self, alloc: Global, name: &str, limit: usize) -> Result<Vec<u8>, FetchFault> {
-        match read_file(alloc, &self.rt, name, limit) {
-            Ok(bytes) => Ok(bytes),
-            Err(Unread::Missing) => Err(FetchFault::Missing),
-            Err(Unread::TooLong) => Err(FetchFault::TooLong),
-            Err(Unread::Memory) => Err(FetchFault::Memory),
-            Err(Unread::Failed) => {
-                self.faults = self.faults.saturating_add(1);
-                Err(FetchFault::Failed)
-            }
+        let result = read_file(alloc, &self.rt, name, limit);
+        if matches!(result, Err(FetchFault::Failed)) {
+            self.faults = self.faults.saturating_add(1);
         }
+        result
     }
 
     fn put(&mut self, name: &str, bytes: &[u8]) -> Result<(), Failed> {
-        match write_file(&self.rt, name, bytes) {
-            Ok(()) => Ok(()),
-            Err(Failed) => {
-                self.faults = self.faults.saturating_add(1);
-                Err(Failed)
-            }
+        let result = write_file(&self.rt, name, bytes);
+        if result.is_err() {
+            self.faults = self.faults.saturating_add(1);
         }
+        result
     }
 }

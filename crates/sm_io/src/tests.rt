@@ -1,5 +1,8 @@
+ghost use Rattle.std.specs.Prelude.{◌≤◌, IfOk};
+
 use super::*;
 use std::fs;
+use std::io::{self, ErrorKind, Read, Write};
 use std::test::Fail;
 
 // Texts, and whether they are names.
@@ -111,6 +114,21 @@ fn real_files(rt: HostRuntime) -> Result<(), Fail> {
     };
     assert_eq!(rt; bytes.as_slice(), b"second".as_slice());
     assert!(rt; matches!(shelf.fetch(alloc, "real.txt", 5), Err(FetchFault::TooLong)));
+    let long = Vec::from_elem(alloc, b'x', 9000)?;
+    assert_eq!(rt; shelf.put("long.txt", &long), Ok(()));
+    let Ok(bytes) = shelf.fetch(alloc, "long.txt", 9000) else {
+        return Err(Fail::from("fetch"));
+    };
+    assert_eq!(rt; bytes, long);
+    assert!(rt;
+        matches!(
+            shelf.fetch(alloc, "long.txt", 8999),
+            Err(FetchFault::TooLong)
+        )
+    );
+    let _ = fs::create_dir(&rt, "folder");
+    assert!(rt; matches!(shelf.fetch(alloc, "folder", 9), Err(FetchFault::Failed)));
+    assert_eq!(rt; shelf.put("folder", b"text"), Err(Failed));
 
     let mut sink = StdSink::new(fs::create(&rt, "stream.txt")?);
     assert_eq!(rt; write_all(&mut sink, b"a line\n"), Ok(()));
@@ -119,5 +137,60 @@ fn real_files(rt: HostRuntime) -> Result<(), Fail> {
     assert_eq!(rt; read_some(&mut source, &mut buf), Ok(7));
     assert_eq!(rt; buf, *b"a line\n\0\0");
     assert_eq!(rt; read_some(&mut source, &mut buf), Ok(0));
+    Ok(())
+}
+
+// A stream whose calls are in turn interrupted, answered with one byte, and failed.
+#[derive(Drop)]
+struct Unsteady {
+    calls: u8,
+}
+
+impl Unsteady {
+    fn answer(&mut self, length: usize) -> io::Result<usize>
+        ensures { IfOk result (λ n. n ≤ length) }
+    {
+        self.calls = self.calls.wrapping_add(1);
+        match self.calls % 3 {
+            1 => Err(io::Error::from(ErrorKind::Interrupted)),
+            2 => Ok(length.min(1)),
+            _ => Err(io::Error::from(ErrorKind::NotFound)),
+        }
+    }
+}
+
+impl Read for Unsteady {
+    fn read(&mut self, buf: &mut [u8]) -> io::Result<usize> {
+        self.answer(buf.len())
+    }
+}
+
+impl Write for Unsteady {
+    fn write(&mut self, buf: &[u8]) -> io::Result<usize> {
+        self.answer(buf.len())
+    }
+
+    fn flush(&mut self) -> io::Result<()> {
+        Ok(())
+    }
+}
+
+#[test]
+fn interruptions_and_faults(rt: HostRuntime) -> Result<(), Fail> {
+    let mut source = StdSource::new(Unsteady { calls: 0 });
+    let mut buf = [0u8; 2];
+    assert_eq!(rt; source.read(&mut buf), Ok(1));
+    assert_eq!(rt; source.read(&mut buf), Err(Failed));
+    assert_eq!(rt; source.read(&mut buf), Ok(1));
+    let mut sink = StdSink::new(Unsteady { calls: 0 });
+    assert_eq!(rt; sink.write(b"ab"), Ok(1));
+    assert_eq!(rt; sink.write(b"ab"), Err(Failed));
+    assert_eq!(rt; write_all(&mut sink, b"a"), Ok(()));
+    assert!(rt;
+        matches!(
+            read_whole(rt.alloc(), &mut Unsteady { calls: 0 }, 9),
+            Err(FetchFault::Failed)
+        )
+    );
     Ok(())
 }

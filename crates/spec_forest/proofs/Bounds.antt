@@ -74,7 +74,7 @@ few-items text f e is = omega (arith, whole-size text f is, short-text text e)
 
 -- ---- places
 
-abbrev PlacesBelow : ℕ → List Token → Type 0
+abbrev pub PlacesBelow : ℕ → List Token → Type 0
 PlacesBelow n [] = Unit {0}
 PlacesBelow n (left k ∷ ts) = (k < n) × PlacesBelow n ts
 PlacesBelow n (right ∷ ts) = PlacesBelow n ts
@@ -105,7 +105,7 @@ place-here n text k low = outer (commented text k) where
   outer true = tt
   outer false = inner (is_left (slice_index text k)) (is_right (slice_index text k)) (is_letter (slice_index text k) && is_fresh text k) (take_while is_letter (drop k text))
 
-places-before : (n : ℕ) (text : List ℕ) (k : ℕ) → k ≤ n → PlacesBelow n (tokens_before text k)
+pub places-before : (n : ℕ) (text : List ℕ) (k : ℕ) → k ≤ n → PlacesBelow n (tokens_before text k)
 places-before n text zero low = tt
 places-before n text (suc k) low = places-append n (tokens_before text k) (token_at text k) (places-before n text k (omega arith)) (place-here n text k (omega arith))
 
@@ -173,7 +173,7 @@ record Room (text : List ℕ) (k : ℕ) : Type 0 where
   left_over : room_after 64 (tokens_before text k) + count_below k (opens text) ≡ 64 + count_below k (closes text)
   balance : count_below k (closes text) ≤ count_below k (opens text)
 
-earlier-parts : {X : Type 0} (x y : Option X) → earlier x y ≡ None → (x ≡ None) × (y ≡ None)
+pub earlier-parts : {X : Type 0} (x y : Option X) → earlier x y ≡ None → (x ≡ None) × (y ≡ None)
 earlier-parts None y e = (refl, e)
 earlier-parts (Some x) y e = absurd (cc)
 
@@ -181,7 +181,7 @@ depth-is : (text : List ℕ) (k : ℕ) → depth text k ≡ count_below k (opens
 unfolding depth
 depth-is text k = refl
 
-abbrev bit : Bool → ℕ
+abbrev pub bit : Bool → ℕ
 bit b = if b then 1 else 0
 
 room-one : (text : List ℕ) (k : ℕ) (us : List Token) (l r : Bool) → Room text k → token_at text k ≡ us → opens text k ≡ l → closes text k ≡ r
@@ -251,12 +251,22 @@ room-before : (text : List ℕ) (k : ℕ) → first_below k (fault_at text) ≡ 
 room-before text zero e = record { room = tt; left_over = refl; balance = omega arith }
 room-before text (suc k) e = let p = earlier-parts (first_below k (fault_at text)) (fault_at text k) e in room-step text k (room-before text k p.0) p.1
 
-no-byte-fault : (text : List ℕ) → scan_fault text ≡ None → first_below (length text) (fault_at text) ≡ None
+pub no-byte-fault : (text : List ℕ) → scan_fault text ≡ None → first_below (length text) (fault_at text) ≡ None
 unfolding scan_fault
 no-byte-fault text e = at (nat_lt longest_text (length text)) refl where
   at : (v : Bool) → nat_lt longest_text (length text) ≡ v → first_below (length text) (fault_at text) ≡ None
   at true t = absurd (let no : Some text_too_long ≡ None = rw (t) at e in cc)
   at false t = (earlier-parts (first_below (length text) (fault_at text)) (if depth text (length text) == 0 then None else Some (unbalanced (length text))) (rw (t) at e)).0
+
+pub no-end-fault : (text : List ℕ) → scan_fault text ≡ None → depth text (length text) ≡ 0
+unfolding scan_fault
+no-end-fault text e = at (nat_lt longest_text (length text)) refl where
+  at : (v : Bool) → nat_lt longest_text (length text) ≡ v → depth text (length text) ≡ 0
+  at true t = absurd (let no : Some text_too_long ≡ None = rw (t) at e in cc)
+  at false t = level (depth text (length text) == 0) refl (earlier-parts (first_below (length text) (fault_at text)) (if depth text (length text) == 0 then None else Some (unbalanced (length text))) (rw (t) at e)).1 where
+    level : (z : Bool) → (depth text (length text) == 0) ≡ z → (if z then None else Some (unbalanced (length text))) ≡ None → depth text (length text) ≡ 0
+    level true e h = eqb-true (depth text (length text)) 0 e
+    level false e h = absurd (cc)
 
 pub shallow : (text : List ℕ) (f : Nodes) → scan_fault text ≡ None → IsForestOf text f → nesting f ≤ 64
 unfolding IsForestOf tokens

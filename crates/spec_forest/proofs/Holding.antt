@@ -13,7 +13,7 @@ use Rattle.spec_forest.specs.NodeLaws.{node-Atom, node-List}
 use Rattle.spec_forest.specs.Tokens.{Token, left, right, word, node_tokens}
 use Rattle.spec_forest.specs.Scanning.{tree_tokens, level_tokens}
 
-tree-push : (ts : List Tree) (x : Tree) → tree_tokens (ts ++ x ∷ []) ≡ tree_tokens ts ++ node_tokens (node x)
+pub tree-push : (ts : List Tree) (x : Tree) → tree_tokens (ts ++ x ∷ []) ≡ tree_tokens ts ++ node_tokens (node x)
 tree-push [] x = append-nil (node_tokens (node x))
 tree-push (y ∷ ts) x = ap (λ us. node_tokens (node y) ++ us) (tree-push ts x) ∙ sym (append_assoc (node_tokens (node y)) (tree_tokens ts) (node_tokens (node x)))
 

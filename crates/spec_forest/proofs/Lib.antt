@@ -12,3 +12,5 @@ pub mod PiecesRead
 pub mod Shapes
 pub mod Pages
 pub mod SameSizes
+pub mod Rising
+pub mod Made

@@ -3,6 +3,7 @@ pub mod NodeLaws
 pub mod Scan
 pub mod Tokens
 pub mod Extents
+pub mod Places
 pub mod Answers
 pub mod Scanning
 pub mod Pieces

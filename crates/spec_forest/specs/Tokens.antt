@@ -53,6 +53,7 @@ abbrev mutual
   forest_tokens (more x xs) = node_tokens x ++ forest_tokens xs
 
 -- The text's atoms and brackets are those of the forest, in order and at their places. What stands between them in
--- a text without a scan fault is blanks and comments; two atoms with nothing between them are one.
+-- a text without a scan fault is blanks and comments; two atoms with nothing between them are one. Of a text with a
+-- fault this says nothing: the one byte 0 has the forest without nodes. So it stands beside `scan_fault text ≡ None`.
 unfoldable pub IsForestOf : List ℕ → Nodes → Type 0
 IsForestOf text forest = tokens text ≡ forest_tokens forest

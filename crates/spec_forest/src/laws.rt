@@ -1,6 +1,9 @@
 // What is true of every text.
 ghost use Rattle.std.specs.Prelude.{◌≡◌, ℕ, ◌≤◌, List, length, None};
-ghost use Rattle.spec_forest.specs.Node.{Nodes};
+ghost use Rattle.std.specs.List.Sorted.{IsStrictlyIncreasing};
+ghost use Rattle.spec_forest.specs.declared.tree.Forest.{Forest};
+ghost use Rattle.spec_forest.specs.Node.{Nodes, forest_nodes};
+ghost use Rattle.spec_forest.specs.Places.{places};
 ghost use Rattle.spec_forest.specs.Scan.{scan_fault};
 ghost use Rattle.spec_forest.specs.Tokens.{tokens, IsForestOf};
 ghost use Rattle.spec_forest.specs.Extents.{nesting, list_count, item_count};
@@ -10,6 +13,16 @@ ghost use Rattle.spec_forest.specs.Layout.{IsWord, HasWords, page_text, page_nod
 /// A text has at most one forest.
 pub fn text_has_one_forest()
     ensures { (text : List ℕ) (f g : Nodes) → IsForestOf text f → IsForestOf text g → f ≡ g }
+{}
+
+/// A text without a fault has a forest.
+pub fn sound_text_has_forest()
+    ensures { (text : List ℕ) → scan_fault text ≡ None → (forest : Forest) × IsForestOf text (forest_nodes forest) }
+{}
+
+/// The places of a text's forest ascend in preorder: a node stands before its items, and before what follows it.
+pub fn places_ascend()
+    ensures { (text : List ℕ) (f : Nodes) → IsForestOf text f → IsStrictlyIncreasing (places f) }
 {}
 
 /// A text made of brackets, words and gaps, with a gap or a bracket between two words, has those pieces at their

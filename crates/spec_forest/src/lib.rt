@@ -10,7 +10,8 @@ mod tree;
 
 pub use fault::ScanFault;
 pub use laws::{
-    layouts_are_read, pages_are_read, pieces_are_read, shapes_have_one_size, text_has_one_forest,
+    layouts_are_read, pages_are_read, pieces_are_read, places_ascend, shapes_have_one_size,
+    sound_text_has_forest, text_has_one_forest,
 };
 pub use scan::trees;
 pub use tree::{Forest, Tree};

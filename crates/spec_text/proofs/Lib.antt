@@ -14,3 +14,10 @@ pub mod ReadParts
 pub mod ReadForms
 pub mod ReadExprs
 pub mod ReadDecls
+pub mod Held
+pub mod HeldExprs
+pub mod HeldDecls
+pub mod Sizes
+pub mod Ascending
+pub mod Placeless
+pub mod Placed

@@ -3,7 +3,7 @@ use Rattle.std.proofs.Common.{◌≡◌, ℕ, ◌==◌, ◌&&◌, true, List, ma
 use Rattle.std.specs.Prelude.{◌||◌, codes}
 use Rattle.std.proofs.lemmas.Bool.{and_parts}
 use Rattle.sm_io.specs.Words.{is_name}
-use Rattle.spec_forest.specs.Node.{atom, list, forest_nodes}
+use Rattle.spec_forest.specs.Node.{Nodes, atom, list, forest_nodes}
 use Rattle.spec_forest.specs.Node.{more as more_node}
 use Rattle.spec_forest.specs.declared.tree.Forest.{Forest}
 use Rattle.spec_text.specs.declared.surface.FieldForm.{FieldForm}
@@ -11,7 +11,7 @@ use Rattle.spec_text.specs.declared.surface.Decl.{Decl}
 use Rattle.spec_text.specs.declared.surface.Decl.TheVariants as d
 use Rattle.spec_text.specs.declared.surface.Surface.{Surface}
 use Rattle.spec_words.specs.Words.{decl_head}
-use Rattle.spec_text.specs.Form.{none, more, form_of, form_of_const, form_of_expr, form_of_field, form_of_decl, IsSurfaceOf}
+use Rattle.spec_text.specs.Form.{none, more, form_of, form_of_const, form_of_expr, form_of_field, form_of_decl, AllMatch, IsSurfaceOf}
 use Rattle.spec_words.specs.Words.{spec_word}
 use Rattle.spec_text.specs.KeepsTable.{between, all_kept, kept_from, keeps_name, keeps_type, keeps_const, keeps_expr, keeps_field, keeps_decl, keeps_table, KeepsTable}
 use Rattle.spec_text.specs.Shape.{most_initial}
@@ -76,14 +76,14 @@ whole-read s k =
     (λ w. front-are (λ xs. surface_of (more_node (atom w (spec_word s.version)) xs)) text_in (λ xs. each_in decl_in xs) (λ n ds. made (kept_version s) n ds) (λ x xs. refl)
     (text-is s.name) (all-are (keeps_decl s.version) form_of_decl decl_in (decl-read s.version) s.decls k))))
 
--- The forest of a surface that keeps the table is read as it.
-surface-read : (forest : Forest) (s : Surface) → IsSurfaceOf forest s → KeepsTable s → surface_in (forest_nodes forest) ≡ s
+-- The nodes of a surface that keeps the table are read as it.
+pub nodes-read : (xs : Nodes) (s : Surface) → AllMatch (more (form_of s) none) xs → KeepsTable s → surface_in xs ≡ s
 unfolding keeps_table
-surface-read forest s m k =
+nodes-read xs s m k =
     let p = and_parts ((s.version == 1 || s.version == 2) && is_name s.name) (all_kept (map (keeps_decl s.version) s.decls)) k in
     let q = and_parts (s.version == 1 || s.version == 2) (is_name s.name) p.0 in
-    (whole-read s p.1).by (forest_nodes forest) m
+    (whole-read s p.1).by xs m
     ∙ ap (λ (o : Option ℕ). made (version_or o) s.name s.decls) (version-read s.version q.0)
 
 pub one-surface : (forest : Forest) (s t : Surface) → IsSurfaceOf forest s → IsSurfaceOf forest t → KeepsTable s → KeepsTable t → s ≡ t
-one-surface forest s t h k l m = sym (surface-read forest s h l) ∙ surface-read forest t k m
+one-surface forest s t h k l m = sym (nodes-read (forest_nodes forest) s h l) ∙ nodes-read (forest_nodes forest) t k m

@@ -95,7 +95,7 @@ window-is : (at : ℕ) (h : WindowHead) (n : ℕ) {f : Form} {a : Expr} → betw
     → IsRead expr_in (headed (Some at) (head_word (head.Window h)) (more (number n) (more f none))) (roll-Expr (window_form at h n a))
 window-is at h n k r = form-is at (head.Window h) (two-are (λ xs. reads at (head.Window h) xs) number_in expr_in (λ m a. window_form at h m a) (λ x y. refl) (number-to n 1 12 k (omega arith)) r)
 
-exprs-each : (xs : Nodes) → exprs_in xs ≡ each_in expr_in xs
+pub exprs-each : (xs : Nodes) → exprs_in xs ≡ each_in expr_in xs
 exprs-each no_node = refl
 exprs-each (more_node x xs) = ap (λ (es : List Expr). expr_in x ∷ es) (exprs-each xs)
 

@@ -67,7 +67,7 @@ KeptConst = (c : ConstForm) × ConstRead c
 abbrev const_of : ConstForm-F KeptConst → ConstForm-F ConstForm
 const_of y = map-ConstForm KeptConst ConstForm (λ e. e.0) y
 
-consts-each : (xs : Nodes) → consts_in xs ≡ each_in const_in xs
+pub consts-each : (xs : Nodes) → consts_in xs ≡ each_in const_in xs
 consts-each no_node = refl
 consts-each (more_node x xs) = ap (λ (cs : List ConstForm). const_in x ∷ cs) (consts-each xs)
 

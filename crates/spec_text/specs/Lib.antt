@@ -8,3 +8,5 @@ pub mod Bare
 pub mod Canonical
 pub mod FoldRows
 pub mod Extent
+pub mod Places
+pub mod WithoutPlaces

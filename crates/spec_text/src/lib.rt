@@ -17,7 +17,8 @@ mod types;
 
 pub use fault::ShapeFault;
 pub use laws::{
-    canonical_texts_are_pages, forest_has_one_surface, kept_surfaces_fit, surfaces_have_one_text,
+    canonical_texts_are_pages, forest_has_one_surface, forms_tell_surfaces, kept_surfaces_fit,
+    parts_ascend, parts_stand_at_their_nodes, sound_forest_has_surface, surfaces_have_one_text,
 };
 pub use spec_forest::{Forest, ScanFault, Tree, trees};
 pub use specification::declarations;

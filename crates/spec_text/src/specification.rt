@@ -1,6 +1,8 @@
 // Declarations and the whole specification in a forest.
-ghost use Rattle.std.specs.Prelude.{◌≡◌, ◌==◌, ◌||◌, ℕ, map, IsTrue, IfSome, IsSomeAnd, true, None, Some};
-ghost use Rattle.spec_forest.specs.Node.{node, nodes, list};
+ghost use Rattle.std.specs.Prelude.{◌≡◌, ◌==◌, ◌||◌, ℕ, map, IsTrue, IfOk, IfSome, IsSomeAnd, true, None, Some};
+ghost use Rattle.spec_forest.specs.Node.{node, nodes, list, forest_nodes};
+ghost use Rattle.spec_forest.specs.Extents.{nesting as nesting_of, list_count as lists_of, item_count as items_of};
+ghost use Rattle.spec_text.specs.Extent.{nesting, list_count, item_count};
 ghost use Rattle.spec_text.specs.Shape.{top, declaration, field, initial, spec_items, most_initial, shape_fault, extra};
 ghost use Rattle.spec_text.specs.FirstFault.{fault_in, top_fault};
 ghost use Rattle.spec_text.specs.Holds.{HoldsField, HoldsDecl, Holds};
@@ -263,9 +265,13 @@ fn read_top(alloc: Global, trees: &[Tree]) -> Result<Surface, ShapeFault>
     }
 }
 
-/// Reads the specification that a forest holds, or tells the first node in preorder that doesn't fit its place.
+/// Reads the specification that a forest holds, or tells the first node in preorder that doesn't fit its place. The
+/// specification nests as many lists as the forest, and has as many lists and atoms.
 pub fn declarations(alloc: Global, forest: &Forest) -> Result<Surface, ShapeFault>
-    ensures { Parses (shape_fault forest.now) (λ s. IsSurfaceOf forest.now s × KeepsTable s) result }
+    ensures parses { Parses (shape_fault forest.now) (λ s. IsSurfaceOf forest.now s × KeepsTable s) result }
+    ensures nesting { IfOk result (λ s. nesting (form_of s) ≡ nesting_of (forest_nodes forest.now)) }
+    ensures lists { IfOk result (λ s. list_count (form_of s) ≡ lists_of (forest_nodes forest.now)) }
+    ensures items { IfOk result (λ s. item_count (form_of s) ≡ items_of (forest_nodes forest.now)) }
 {
     read_top(alloc, forest.items.as_slice())
 }

@@ -6,11 +6,11 @@ use Rattle.std.proofs.Math.Seq.{take-length}
 use Rattle.stream_core.specs.Value.{SpecValue}
 use Rattle.stream_core.specs.Weights.{total, heavy, heavy_at, nodes_weight, majority_weight, agreed_weight}
 
-heavy_count : (s : SpecValue) (is : List ℕ) → length (map (heavy s) is) ≡ length is
+pub heavy_count : (s : SpecValue) (is : List ℕ) → length (map (heavy s) is) ≡ length is
 heavy_count s [] = refl
 heavy_count s (i ∷ is) = ap suc (heavy_count s is)
 
-heavy_total : (s : SpecValue) (is : List ℕ) → total (map (heavy s) is) ≡ nodes_weight s is
+pub heavy_total : (s : SpecValue) (is : List ℕ) → total (map (heavy s) is) ≡ nodes_weight s is
 heavy_total s [] = refl
 heavy_total s (i ∷ is) = let h = heavy_total s is in cc
 

@@ -16,6 +16,7 @@ use Rattle.stream_core.specs.Term.{TreeDef, missing, build_at, tree, trees, tree
 use Rattle.stream_core.specs.Limits.{Mentions, Leads, Ranks, mentions}
 use Rattle.stream_core.specs.Acyclic.{Acyclic, WellFounded}
 use Rattle.stream_core.specs.Soundness.{HasNoCycle}
+use Rattle.stream_core.specs.Signature.{def_types, signature_of}
 use Rattle.stream_core.specs.WellTyped.{HasType, IsGoodDef, WellTyped}
 use Rattle.stream_core.proofs.Trees.{tree_is, tree_of}
 
@@ -41,28 +42,29 @@ no_cycle defs acyclic d way = let p = walk_falls defs acyclic.rank acyclic.ranks
 -- ---- well typed
 
 -- a tree with a type is a node's
-pub node_there : (s : SpecValue) (i : ℕ) (t : Ty) → WellTyped s → HasType (trees s) (tree s.nodes s.libs i) t → i < length s.nodes
+pub node_there : (s : SpecValue) (i : ℕ) (t : Ty) → WellTyped s → HasType (signature_of (trees s)) (tree s.nodes s.libs i) t → i < length s.nodes
 node_there s i t w has = ⊎_elim (λ b. b) past (cases_lt i (length s.nodes))
   where
     past : length s.nodes ≤ i → i < length s.nodes
     past le =
         let is : tree s.nodes s.libs i ≡ missing = tree_is s.nodes s.libs w.ordered i ∙ ap (build_at s.libs (tree s.nodes s.libs)) (slice_get_past s.nodes i le) in
-        absurd (subst (λ e. HasType (trees s) e t) is has)
+        absurd (subst (λ e. HasType (signature_of (trees s)) e t) is has)
 
 pub exprs_there : (s : SpecValue) → WellTyped s → (d : ℕ) (x : DefItem) → slice_get s.defs d ≡ Some x → x.expr < length s.nodes
 exprs_there s w d x e =
     let trees_at : slice_get (trees s).defs d ≡ Some (tree_def (tree s.nodes s.libs) x) = slice_get-map (tree_def (tree s.nodes s.libs)) s.defs d ∙ ap (option_map (tree_def (tree s.nodes s.libs))) e in
     let y = tree_def (tree s.nodes s.libs) x in
-    let good : IsGoodDef (trees s) y = subst (IsGoodDef (trees s)) (get_or_from_slice_get (trees s).defs d y y trees_at) (w.defs d y (slice_get_within (trees s).defs d y trees_at)) in
+    let good : IsGoodDef (signature_of (trees s)) y = subst (IsGoodDef (signature_of (trees s))) (get_or_from_slice_get (trees s).defs d y y trees_at) (w.defs d y (slice_get_within (trees s).defs d y trees_at)) in
     node_there s x.expr x.ty w good.expr
 
 pub defs_there : (s : SpecValue) → WellTyped s → (i : ℕ) (n : Node) → slice_get s.nodes i ≡ Some n → DefsThere s.defs n
 defs_there s w i (node.Def d) e =
     let typed = w.nodes i (slice_get_within s.nodes i (node.Def d) e) in
-    let has = subst (λ t. HasType (trees s) t typed.0) (tree_of s.nodes s.libs w.ordered i (node.Def d) e) typed.1 in
-    let b = slice_get_within (trees s).defs d has.item has.is in
+    let has = subst (λ t. HasType (signature_of (trees s)) t typed.0) (tree_of s.nodes s.libs w.ordered i (node.Def d) e) typed.1 in
+    let b = slice_get_within (def_types (trees s).defs) d typed.0 has in
     let l : length (trees s).defs ≡ length s.defs = length-map s.defs (tree_def (tree s.nodes s.libs)) in
-    omega (arith, b, l)
+    let m : length (def_types (trees s).defs) ≡ length (trees s).defs = length-map (trees s).defs (λ (x : TreeDef). x.ty) in
+    omega (arith, b, l, m)
 defs_there s w i _ e = tt
 
 pub well_founded : (s : SpecValue) → WellTyped s → Acyclic (defs_of s) → WellFounded s

@@ -12,6 +12,7 @@ use Rattle.stream_core.specs.declared.node.LibForm.TheVariants as form
 use Rattle.stream_core.specs.declared.spec.LibItem.{LibItem}
 use Rattle.stream_core.specs.Value.{SpecValue}
 use Rattle.stream_core.specs.Term.{Term, TreeLib, lib_of, terms_of, tree, trees}
+use Rattle.stream_core.specs.Signature.{signature_of}
 use Rattle.stream_core.specs.WellTyped.{HasType, IsGoodLib, ListHasTypes, operand_types, terms_length, WellTyped}
 use Rattle.stream_core.specs.Weights.{IsGoodNode, IsGoodItem, heavy, heavy_at, operands}
 use Rattle.stream_core.proofs.Trees.{tree_of}
@@ -21,12 +22,12 @@ terms_count : (f : ℕ → Term) (is : List ℕ) → terms_length (terms_of f is
 terms_count f [] = refl
 terms_count f (i ∷ is) = ap suc (terms_count f is)
 
-item_there : (s : SpecValue) (k : ℕ) (o : Option LibItem) (t : Ty) → slice_get s.libs k ≡ o → HasType (trees s) (lib_of (tree s.nodes s.libs) k o) t → k < length s.libs
+item_there : (s : SpecValue) (k : ℕ) (o : Option LibItem) (t : Ty) → slice_get s.libs k ≡ o → HasType (signature_of (trees s)) (lib_of (tree s.nodes s.libs) k o) t → k < length s.libs
 item_there s k None t e h = absurd h
 item_there s k (Some x) t e h = slice_get_within s.libs k x e
 
-typed_node : (s : SpecValue) → WellTyped s → (i : ℕ) (n : Node) (e : Term) → slice_get s.nodes i ≡ Some n → tree s.nodes s.libs i ≡ e → (t : Ty) × HasType (trees s) e t
-typed_node s w i n e there is = let h = w.nodes i (slice_get_within s.nodes i n there) in (h.0, subst (λ x. HasType (trees s) x h.0) is h.1)
+typed_node : (s : SpecValue) → WellTyped s → (i : ℕ) (n : Node) (e : Term) → slice_get s.nodes i ≡ Some n → tree s.nodes s.libs i ≡ e → (t : Ty) × HasType (signature_of (trees s)) e t
+typed_node s w i n e there is = let h = w.nodes i (slice_get_within s.nodes i n there) in (h.0, subst (λ x. HasType (signature_of (trees s)) x h.0) is h.1)
 
 pub good_node : (s : SpecValue) → WellTyped s → (i : ℕ) (n : Node) → slice_get s.nodes i ≡ Some n → IsGoodNode s n
 good_node s w i (node.Majority c es) e =
@@ -66,7 +67,7 @@ good_node s w i (node.Sign c a) e = tt
 
 -- ---- forms
 
-args_there : (s : SpecValue) → WellTyped s → (is : List ℕ) (ts : List Ty) → ListHasTypes (trees s) (map (tree s.nodes s.libs) is) ts → (length is ≡ length ts) × AllByRecursion (λ j. j < length s.nodes) is
+args_there : (s : SpecValue) → WellTyped s → (is : List ℕ) (ts : List Ty) → ListHasTypes (signature_of (trees s)) (map (tree s.nodes s.libs) is) ts → (length is ≡ length ts) × AllByRecursion (λ j. j < length s.nodes) is
 args_there s w [] [] h = (refl, tt)
 args_there s w [] (t ∷ ts) h = absurd h
 args_there s w (i ∷ is) [] h = absurd h
@@ -115,10 +116,18 @@ counted s (form.Clock period phase) (i ∷ is) e = absurd (omega (arith, e))
 abbrev lib_tree : SpecValue → LibItem → TreeLib
 lib_tree s x = record { form = x.form; args = map (tree s.nodes s.libs) x.args; at = x.at }
 
-pub good_item : (s : SpecValue) → WellTyped s → (k : ℕ) (x : LibItem) → slice_get s.libs k ≡ Some x → IsGoodItem s x
-good_item s w k x e =
+good_lib : (s : SpecValue) → WellTyped s → (k : ℕ) (x : LibItem) → slice_get s.libs k ≡ Some x → IsGoodLib (signature_of (trees s)) (lib_tree s x)
+good_lib s w k x e =
     let at : slice_get (trees s).libs k ≡ Some (lib_tree s x) = slice_get-map (lib_tree s) s.libs k ∙ ap (option_map (lib_tree s)) e in
     let y = lib_tree s x in
-    let good : IsGoodLib (trees s) y = subst (IsGoodLib (trees s)) (get_or_from_slice_get (trees s).libs k y y at) (w.libs k y (slice_get_within (trees s).libs k y at)) in
+    subst (IsGoodLib (signature_of (trees s))) (get_or_from_slice_get (trees s).libs k y y at) (w.libs k y (slice_get_within (trees s).libs k y at))
+
+-- a form has as many operands as it wants
+pub args_count : (s : SpecValue) → WellTyped s → (k : ℕ) (x : LibItem) → slice_get s.libs k ≡ Some x → length x.args ≡ length (operand_types x.form)
+args_count s w k x e = (args_there s w x.args (operand_types x.form) (good_lib s w k x e).args).0
+
+pub good_item : (s : SpecValue) → WellTyped s → (k : ℕ) (x : LibItem) → slice_get s.libs k ≡ Some x → IsGoodItem s x
+good_item s w k x e =
+    let good = good_lib s w k x e in
     let r = args_there s w x.args (operand_types x.form) good.args in
     record { form = good.form; weights = counted s x.form x.args r.0; there = r.1 }

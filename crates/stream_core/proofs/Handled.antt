@@ -1,5 +1,5 @@
 -- Each handler stands once, and each trigger's name is its handler's.
-use Rattle.std.proofs.Common.{◌≡◌, ◌⊎◌, ⊎_elim, inl, inr, ℕ, zero, suc, ◌+◌, Bool, true, false, List, [], ◌∷◌, ◌++◌, Some, refl, sym, ap, ◌∙◌, subst, arith}
+use Rattle.std.proofs.Common.{◌≡◌, ◌⊎◌, ⊎_elim, inl, inr, append-nil, append_assoc, ℕ, zero, suc, ◌+◌, Bool, true, false, List, [], ◌∷◌, ◌++◌, Some, refl, sym, ap, ◌∙◌, subst, arith}
 use Rattle.std.specs.Prelude.{slice_get, nat_eq, not, ◌||◌, if◌then◌else◌}
 use Rattle.std.specs.List.{list_any, position_or_len}
 use Rattle.std.specs.Cmp.Lexicographic.{pointwise, nat_list_eq_equiv}
@@ -126,3 +126,27 @@ seen_or_named seen (x ∷ xs) i name e =
 -- each handler is some trigger's name
 pub handler_from : (s : TreeSpec) (i : ℕ) (name : List ℕ) → slice_get (handlers s) i ≡ Some name → IsTriggerOf s.triggers name
 handler_from s i name e = ⊎_elim (λ old. absurd (cc)) (λ (y : IsTriggerOf s.triggers name). y) (seen_or_named [] s.triggers i name e)
+
+-- ---- in order
+
+grown_seen : (seen : List (List ℕ)) (name : List ℕ) → (more : List (List ℕ)) × (with_name seen name ≡ seen ++ more)
+grown_seen seen name = by (list_any (is_name name) seen)
+  where
+    by : (b : Bool) → (more : List (List ℕ)) × ((if b then seen else seen ++ name ∷ []) ≡ seen ++ more)
+    by true = ([], sym (append-nil seen))
+    by false = (name ∷ [], refl)
+
+grown_after : (seen : List (List ℕ)) (xs : List TreeTrigger) → (more : List (List ℕ)) × (handlers_after seen xs ≡ seen ++ more)
+grown_after seen [] = ([], sym (append-nil seen))
+grown_after seen (x ∷ xs) =
+    let first = grown_seen seen x.name in
+    let rest = grown_after (with_name seen x.name) xs in
+    (first.0 ++ rest.0, rest.1 ∙ ap (λ names. names ++ rest.0) first.1 ∙ append_assoc seen first.0 rest.0)
+
+after_front : (seen : List (List ℕ)) (front back : List TreeTrigger) → handlers_after seen (front ++ back) ≡ handlers_after (handlers_after seen front) back
+after_front seen [] back = refl
+after_front seen (x ∷ front) back = after_front (with_name seen x.name) front back
+
+-- the handlers of the first triggers begin those of all
+pub handlers_in_order : (front back : List TreeTrigger) → (more : List (List ℕ)) × (handlers_after [] (front ++ back) ≡ handlers_after [] front ++ more)
+handlers_in_order front back = let rest = grown_after (handlers_after [] front) back in (rest.0, after_front [] front back ∙ rest.1)

@@ -6,8 +6,8 @@ use Rattle.stream_types.specs.declared.scalar.Ty.TheVariants as ty
 use Rattle.stream_types.specs.declared.types.Field.{Field}
 use Rattle.stream_types.specs.declared.types.TypeEntry.{TypeEntry}
 use Rattle.stream_types.specs.declared.types.TypeEntry.TheVariants as entry
-use Rattle.stream_core.specs.declared.spec.ExternItem.{ExternItem}
-use Rattle.stream_core.specs.Term.{Term, lit, extern, stream, def, named, missing, dropped, un, bin, shift, cast, and, or, implies, choose, index, field, array, struct, abs, sign, majority, agreed, lib, TreeSpec, TreeStream, TreeDef}
+use Rattle.stream_core.specs.Term.{Term, lit, extern, stream, def, named, missing, dropped, un, bin, shift, cast, and, or, implies, choose, index, field, array, struct, abs, sign, majority, agreed, lib}
+use Rattle.stream_core.specs.Signature.{Signature, StreamSignature}
 use Rattle.stream_core.specs.WellTyped.{HasType, IsArrayOf, IsStructOf, HasMember}
 
 -- two readings of one place
@@ -30,28 +30,28 @@ same_member types of k t u p q =
     let m = same_some (slice_get q.fields k) p.member q.member (ap (λ (f : List Field). slice_get f k) (sym fs) ∙ p.is) q.is in
     sym p.type_is ∙ ap (λ (f : Field). f.ty) m ∙ q.type_is
 
-pub one_type : (s : TreeSpec) (e : Term) (t u : Ty) → HasType s e t → HasType s e u → t ≡ u
-one_type s (lit c w) t u p q = p.1 ∙ sym q.1
-one_type s (extern x) t u p q = sym p.type_is ∙ ap (λ (i : ExternItem). i.ty) (same_some (slice_get s.externs x) p.item q.item p.is q.is) ∙ q.type_is
-one_type s (stream x) t u p q = sym p.type_is ∙ ap (λ (i : TreeStream). i.ty) (same_some (slice_get s.streams x) p.item q.item p.is q.is) ∙ q.type_is
-one_type s (dropped x k) t u p q = sym p.type_is ∙ ap (λ (i : TreeStream). i.ty) (same_some (slice_get s.streams x) p.item q.item p.is q.is) ∙ q.type_is
-one_type s (def d) t u p q = sym p.type_is ∙ ap (λ (i : TreeDef). i.ty) (same_some (slice_get s.defs d) p.item q.item p.is q.is) ∙ q.type_is
-one_type s (named d a) t u p q = one_type s a t u p.1 q.1
-one_type s missing t u p q = absurd p
-one_type s (un o c a) t u p q = p.2 ∙ sym q.2
-one_type s (bin o c a b) t u p q = p.3 ∙ sym q.3
-one_type s (shift d c a cs n) t u p q = p.3 ∙ sym q.3
-one_type s (cast from to a) t u p q = p.2 ∙ sym q.2
-one_type s (and a b) t u p q = p.2 ∙ sym q.2
-one_type s (or a b) t u p q = p.2 ∙ sym q.2
-one_type s (implies a b) t u p q = p.2 ∙ sym q.2
-one_type s (choose c a b) t u p q = one_type s a t u p.1 q.1
-one_type s (index of a i) t u p q = same_elem s.types of t u p.0 q.0 p.1 q.1
-one_type s (field of k a) t u p q = same_member s.types of k t u p.0 q.0
-one_type s (array of es) t u p q = p.4 ∙ sym q.4
-one_type s (struct of es) t u p q = p.3 ∙ sym q.3
-one_type s (abs c a) t u p q = p.2 ∙ sym q.2
-one_type s (sign c a) t u p q = p.2 ∙ sym q.2
-one_type s (majority c es) t u p q = p.2 ∙ sym q.2
-one_type s (agreed c es) t u p q = p.2 ∙ sym q.2
-one_type s (lib k form es) t u p q = p.2 ∙ sym q.2
+pub one_type : (sig : Signature) (e : Term) (t u : Ty) → HasType sig e t → HasType sig e u → t ≡ u
+one_type sig (lit c w) t u p q = p.1 ∙ sym q.1
+one_type sig (extern x) t u p q = same_some (slice_get sig.externs x) t u p q
+one_type sig (stream x) t u p q = sym p.type_is ∙ ap (λ (i : StreamSignature). i.ty) (same_some (slice_get sig.streams x) p.stream q.stream p.is q.is) ∙ q.type_is
+one_type sig (dropped x k) t u p q = sym p.type_is ∙ ap (λ (i : StreamSignature). i.ty) (same_some (slice_get sig.streams x) p.stream q.stream p.is q.is) ∙ q.type_is
+one_type sig (def d) t u p q = same_some (slice_get sig.defs d) t u p q
+one_type sig (named d a) t u p q = one_type sig a t u p.1 q.1
+one_type sig missing t u p q = absurd p
+one_type sig (un o c a) t u p q = p.2 ∙ sym q.2
+one_type sig (bin o c a b) t u p q = p.3 ∙ sym q.3
+one_type sig (shift d c a cs n) t u p q = p.3 ∙ sym q.3
+one_type sig (cast from to a) t u p q = p.2 ∙ sym q.2
+one_type sig (and a b) t u p q = p.2 ∙ sym q.2
+one_type sig (or a b) t u p q = p.2 ∙ sym q.2
+one_type sig (implies a b) t u p q = p.2 ∙ sym q.2
+one_type sig (choose c a b) t u p q = one_type sig a t u p.1 q.1
+one_type sig (index of a i) t u p q = same_elem sig.types of t u p.0 q.0 p.1 q.1
+one_type sig (field of k a) t u p q = same_member sig.types of k t u p.0 q.0
+one_type sig (array of es) t u p q = p.4 ∙ sym q.4
+one_type sig (struct of es) t u p q = p.3 ∙ sym q.3
+one_type sig (abs c a) t u p q = p.2 ∙ sym q.2
+one_type sig (sign c a) t u p q = p.2 ∙ sym q.2
+one_type sig (majority c es) t u p q = p.2 ∙ sym q.2
+one_type sig (agreed c es) t u p q = p.2 ∙ sym q.2
+one_type sig (lib k form es) t u p q = p.2 ∙ sym q.2

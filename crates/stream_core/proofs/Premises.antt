@@ -16,6 +16,7 @@ use Rattle.stream_core.specs.Ordered.{Ordered, all_parts, DefsThere}
 use Rattle.stream_core.specs.Term.{TreeDef, tree, trees, tree_def, tree_root, defs_of}
 use Rattle.stream_core.specs.Limits.{mentions}
 use Rattle.stream_core.specs.Acyclic.{Acyclic, WellFounded}
+use Rattle.stream_core.specs.Signature.{signature_of}
 use Rattle.stream_core.specs.WellTyped.{bool, HasType, HasGoodNames, IsName, IsGoodTrigger, IsGoodDef, WellTyped, declared_names, argument_types}
 
 abbrev def_a : DefItem
@@ -94,11 +95,11 @@ no_types = record {
   short = omega arith;
 }
 
-typed : (i : ℕ) → i < 3 → (t : Ty) × HasType (trees two_defs) (tree two_defs.nodes two_defs.libs i) t
+typed : (i : ℕ) → i < 3 → (t : Ty) × HasType (signature_of (trees two_defs)) (tree two_defs.nodes two_defs.libs i) t
 unfolding tree
 typed zero b = (bool, (refl, refl))
-typed (suc zero) b = (bool, record { item = _; is = refl; type_is = refl })
-typed (suc (suc zero)) b = (bool, record { item = _; is = refl; type_is = refl })
+typed (suc zero) b = (bool, refl)
+typed (suc (suc zero)) b = (bool, refl)
 typed (suc (suc (suc i))) b = absurd (omega (arith, b))
 
 abbrev pub first_byte : Option (List ℕ) → ℕ
@@ -161,8 +162,8 @@ well_typed = record {
   nodes = typed;
   externs = All-nil _;
   streams = All-nil _;
-  defs = two (IsGoodDef (trees two_defs)) (tree_of_def def_a) (tree_of_def def_b) (record { stands = tt; expr = (refl, refl) }) (record { stands = tt; expr = record { item = _; is = refl; type_is = refl } });
-  triggers = one (IsGoodTrigger (trees two_defs)) (record { name = 116 ∷ []; guard = tree_root (tree two_defs.nodes two_defs.libs) trigger_t.guard; args = [] }) (record { guard = record { item = _; is = refl; type_is = refl }; truth = refl; args = All-nil _; few = omega arith });
+  defs = two (IsGoodDef (signature_of (trees two_defs))) (tree_of_def def_a) (tree_of_def def_b) (record { stands = tt; expr = (refl, refl) }) (record { stands = tt; expr = refl });
+  triggers = one (IsGoodTrigger (signature_of (trees two_defs))) (record { name = 116 ∷ []; guard = tree_root (tree two_defs.nodes two_defs.libs) trigger_t.guard; args = [] }) (record { guard = refl; truth = refl; args = All-nil _; few = omega arith });
   observers = All-nil _;
   libs = All-nil _;
   names = good_names;

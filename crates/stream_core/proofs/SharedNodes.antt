@@ -21,6 +21,7 @@ use Rattle.stream_core.specs.Stored.{IsPlaced, with_item}
 use Rattle.stream_core.specs.Term.{TreeRoot, tree, trees, tree_root, defs_of}
 use Rattle.stream_core.specs.Limits.{Leads}
 use Rattle.stream_core.specs.Soundness.{HasNoCycle}
+use Rattle.stream_core.specs.Signature.{signature_of}
 use Rattle.stream_core.specs.WellTyped.{bool, HasType, HasGoodNames, IsName, IsGoodTrigger, RootHasType, WellTyped, declared_names, argument_types}
 use Rattle.stream_core.proofs.Premises.{one, two, no_types, first_byte, name_byte}
 
@@ -70,11 +71,11 @@ each_node P a b c (suc (suc (suc i))) n e = absurd (cc)
 ordered : Ordered three []
 ordered = record { below = each_node (λ i n. AllByRecursion (λ j. j < i) (all_parts [] n)) tt tt (omega arith, (omega arith, tt)) }
 
-typed : (i : ℕ) → i < 3 → (t : Ty) × HasType (trees shared) (tree three [] i) t
+typed : (i : ℕ) → i < 3 → (t : Ty) × HasType (signature_of (trees shared)) (tree three [] i) t
 unfolding tree
 typed zero b = (bool, (refl, refl))
-typed (suc zero) b = (word8, record { item = _; is = refl; type_is = refl })
-typed (suc (suc zero)) b = (word8, (refl, record { item = _; is = refl; type_is = refl }, record { item = _; is = refl; type_is = refl }, refl))
+typed (suc zero) b = (word8, refl)
+typed (suc (suc zero)) b = (word8, (refl, refl, refl, refl))
 typed (suc (suc (suc i))) b = absurd (omega (arith, b))
 
 good_names : HasGoodNames shared
@@ -110,9 +111,9 @@ good_names = record {
 abbrev tree_of_root : Root → TreeRoot
 tree_of_root r = tree_root (tree three []) r
 
-argument : RootHasType (trees shared) (tree_of_root (root_at 2 word8))
+argument : RootHasType (signature_of (trees shared)) (tree_of_root (root_at 2 word8))
 unfolding tree
-argument = (refl, record { item = _; is = refl; type_is = refl }, record { item = _; is = refl; type_is = refl }, refl)
+argument = (refl, refl, refl, refl)
 
 pub well_typed : WellTyped shared
 unfolding tree
@@ -123,7 +124,7 @@ well_typed = record {
   externs = one (λ (x : ExternItem). Stands shared.types x.ty) x_item tt;
   streams = All-nil _;
   defs = All-nil _;
-  triggers = one (IsGoodTrigger (trees shared)) (record { name = 116 ∷ []; guard = tree_of_root (root_at 0 bool); args = tree_of_root (root_at 2 word8) ∷ tree_of_root (root_at 2 word8) ∷ [] }) (record { guard = (refl, refl); truth = refl; args = two (RootHasType (trees shared)) (tree_of_root (root_at 2 word8)) (tree_of_root (root_at 2 word8)) argument argument; few = omega arith });
+  triggers = one (IsGoodTrigger (signature_of (trees shared))) (record { name = 116 ∷ []; guard = tree_of_root (root_at 0 bool); args = tree_of_root (root_at 2 word8) ∷ tree_of_root (root_at 2 word8) ∷ [] }) (record { guard = (refl, refl); truth = refl; args = two (RootHasType (signature_of (trees shared))) (tree_of_root (root_at 2 word8)) (tree_of_root (root_at 2 word8)) argument argument; few = omega arith });
   observers = All-nil _;
   libs = All-nil _;
   names = good_names;

@@ -8,10 +8,11 @@ use Rattle.stream_types.specs.declared.scalar.Ty.{Ty}
 use Rattle.stream_types.specs.declared.scalar.Ty.TheVariants as ty
 use Rattle.stream_types.specs.declared.types.TypeEntry.{TypeEntry}
 use Rattle.stream_types.specs.declared.types.TypeEntry.TheVariants as entry
-use Rattle.stream_types.specs.Types.{one_word, entry_words, words, at_type, leaves, repeated}
+use Rattle.stream_types.specs.Types.{one_word, entry_words, words, at_type, leaves, repeated, AreWords}
 use Rattle.stream_types.specs.TypeList.{IsArrayEntry, IsStructEntry, Stands, IsGoodEntry, IsTypeList}
 use Rattle.stream_types.proofs.LeafWords.{length-leaves, length-words}
 use Rattle.stream_types.proofs.Widths.{measure_is, Stands-element}
+use Rattle.stream_core.specs.Term.{value_count}
 use Rattle.stream_core.specs.WellTyped.{AreInitial}
 
 get_take : (n : ℕ) (xs : List TypeEntry) (j : ℕ) (e : TypeEntry) → slice_get (take n xs) j ≡ Some e → (j < n) × (slice_get xs j ≡ Some e)
@@ -57,18 +58,24 @@ module _ (types : List TypeEntry) (good : IsTypeList types) where
   all_wide zero j e h is = absurd (omega (arith, h))
   all_wide (suc b) j e h is = entry_wide j (λ k f less there. all_wide b k f (omega (arith, less, h)) there) e is (good.each j e is)
 
-  words_wide : (t : Ty) → Stands types t → 1 ≤ words types t
+  pub words_wide : (t : Ty) → Stands types t → 1 ≤ words types t
   words_wide (ty.Scalar s) h = omega arith
   words_wide (ty.Array j) h = let p = array_there (slice_get types j) h in all_wide (suc j) j p.0 (omega arith) p.1
   words_wide (ty.Struct j) h = let p = struct_there (slice_get types j) h in all_wide (suc j) j p.0 (omega arith) p.1
 
-  length_repeated : (n : ℕ) (xs : List Scalar) → length (repeated n xs) ≡ n * length xs
+  pub length_repeated : (n : ℕ) (xs : List Scalar) → length (repeated n xs) ≡ n * length xs
   length_repeated zero xs = omega arith
   length_repeated (suc n) xs = let a = length-append xs (repeated n xs) in let h = length_repeated n xs in omega (arith, a, h)
 
-  -- as many initial values as were counted
-  pub counted : (t : Ty) (init : List ℕ) → Stands types t → (a : AreInitial types t init) → length init / words types t ≡ a.count
-  counted t init h a =
-      let l : length init ≡ a.count * words types t = length-words (repeated a.count (leaves types t)) init a.values ∙ length_repeated a.count (leaves types t) ∙ ap (λ n. a.count * n) (length-leaves types t) in
+  -- so many values of a type are counted as so many
+  pub counted : (t : Ty) (values : List ℕ) (n : ℕ) → Stands types t → AreWords (repeated n (leaves types t)) values → value_count types t values ≡ n
+  counted t values n h are =
+      let l : length values ≡ n * words types t = length-words (repeated n (leaves types t)) values are ∙ length_repeated n (leaves types t) ∙ ap (λ w. n * w) (length-leaves types t) in
       let w : 0 < words types t = omega (arith, words_wide t h) in
-      ap (λ n. n / words types t) l ∙ mul-div_cancel a.count w
+      ap (λ k. k / words types t) l ∙ mul-div_cancel n w
+
+  -- the words of initial values are as many as the values and their width say
+  pub initial_words : (t : Ty) (init : List ℕ) → AreInitial types t init → length init ≡ value_count types t init * words types t
+  initial_words t init a =
+      let n = value_count types t init in
+      length-words (repeated n (leaves types t)) init a.values ∙ length_repeated n (leaves types t) ∙ ap (λ w. n * w) (length-leaves types t)

@@ -76,8 +76,8 @@ abbrev pub operand_word : Moment → ℕ → List ℕ → ℕ → ℕ → ℕ
 operand_word m k now j i = if nat_lt i m.time then first_word (entry_at m.table (m.place k + j) i) else slice_index now j
 
 abbrev mutual
-  -- The value of an expression whose defs are written out. (A def's bare name and a missing node have no value: they
-  -- stand in no tree of a well typed specification with its defs written out.)
+  -- The value of an expression whose defs are written out. (That of a def's bare name and of a missing node is the empty
+  -- list, which is never met: they stand in no tree of a well typed specification with its defs written out.)
   pub value : Moment → Term → Value
   value m (lit s w) = Ok (w ∷ [])
   value m (extern x) = Ok (part_of m.types m.externs m.row x)
@@ -129,10 +129,16 @@ abbrev pub concat_values : Moment → List TreeRoot → Value
 concat_values m [] = Ok []
 concat_values m (r ∷ rs) = cons (value m r.expr) (concat_values m rs)
 
+-- the events of trigger i: one where its guard is true, and else none
+abbrev pub events_of_trigger : Moment → ℕ → TreeTrigger → Result (List Event) Hazard
+events_of_trigger m i x =
+    bind (value m x.guard.expr) (λ g.
+    if is_true_word (first_word g) then bind (concat_values m x.args) (λ ws. Ok (record { who = trigger i; words = ws } ∷ [])) else Ok [])
+
 -- the events of the triggers from number i on
 abbrev pub fired : Moment → ℕ → List TreeTrigger → Result (List Event) Hazard
 fired m i [] = Ok []
-fired m i (x ∷ xs) = bind (value m x.guard.expr) (λ g. bind (if is_true_word (first_word g) then bind (concat_values m x.args) (λ ws. Ok (record { who = trigger i; words = ws } ∷ [])) else Ok []) (λ es. bind (fired m (i + 1) xs) (λ more_. Ok (es ++ more_))))
+fired m i (x ∷ xs) = bind (events_of_trigger m i x) (λ es. bind (fired m (i + 1) xs) (λ more_. Ok (es ++ more_)))
 
 abbrev pub observed : Moment → ℕ → List TreeObserver → Result (List Event) Hazard
 observed m i [] = Ok []

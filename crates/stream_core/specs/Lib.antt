@@ -11,6 +11,17 @@ pub mod Ordered
 pub mod Acyclic
 pub mod Equations
 pub mod Soundness
+pub mod Signature
 pub mod WellTyped
+pub mod TypeOf
+pub mod TypedParts
+pub mod KeptLimits
+pub mod Children
 pub mod Weights
+pub mod KnownWeights
+pub mod PlainTrees
 pub mod Meaning
+pub mod WrittenOut
+pub mod Plain
+pub mod StepParts
+pub mod EventWords

@@ -143,9 +143,13 @@ pub record TreeSpec : Type 0 where
   pub observers : List TreeObserver
   pub libs : List TreeLib
 
+-- how many values of a type so many words are
+abbrev pub value_count : List TypeEntry → Ty → List ℕ → ℕ
+value_count types t values = length values / words types t
+
 -- how many initial values a stream has
 abbrev pub initial_count : List TypeEntry → TreeStream → ℕ
-initial_count types x = length x.init / words types x.ty
+initial_count types x = value_count types x.ty x.init
 
 abbrev pub tree_root : (ℕ → Term) → Root → TreeRoot
 tree_root tree r = record { expr = tree r.expr; ty = r.ty; at = r.at }

@@ -22,7 +22,8 @@ use Rattle.stream_core.specs.declared.spec.ObserverItem.{ObserverItem}
 use Rattle.stream_core.specs.declared.spec.LibItem.{LibItem}
 use Rattle.stream_core.specs.Value.{SpecValue}
 use Rattle.stream_core.specs.Ordered.{Ordered}
-use Rattle.stream_core.specs.Term.{Term, Terms, lit, extern, stream, def, named, missing, dropped, un, bin, shift, cast, and, or, implies, choose, index, field, array, struct, abs, sign, majority, agreed, lib, end, more, TreeSpec, TreeStream, TreeDef, TreeRoot, TreeTrigger, TreeObserver, TreeLib, tree, trees, initial_count}
+use Rattle.stream_core.specs.Term.{Term, Terms, lit, extern, stream, def, named, missing, dropped, un, bin, shift, cast, and, or, implies, choose, index, field, array, struct, abs, sign, majority, agreed, lib, end, more, TreeStream, TreeDef, TreeRoot, TreeTrigger, TreeObserver, TreeLib, tree, trees, value_count}
+use Rattle.stream_core.specs.Signature.{Signature, StreamSignature, signature_of}
 
 -- ---- types of expressions
 
@@ -32,28 +33,18 @@ bool = ty.Scalar scalar.Bool
 abbrev pub word32 : Ty
 word32 = ty.Scalar scalar.Word32
 
--- the extern, stream or def of this number is there and has this type
-pub record ExternHasType (s : TreeSpec) (x : ℕ) (t : Ty) : Type 0 where
-  pub item : ExternItem
-  pub is : slice_get s.externs x ≡ Some item
-  pub type_is : item.ty ≡ t
-
-pub record StreamHasType (s : TreeSpec) (x : ℕ) (t : Ty) : Type 0 where
-  pub item : TreeStream
-  pub is : slice_get s.streams x ≡ Some item
-  pub type_is : item.ty ≡ t
-
-pub record DefHasType (s : TreeSpec) (x : ℕ) (t : Ty) : Type 0 where
-  pub item : TreeDef
-  pub is : slice_get s.defs x ≡ Some item
-  pub type_is : item.ty ≡ t
+-- the stream of this number is there and has this type
+pub record StreamHasType (sig : Signature) (x : ℕ) (t : Ty) : Type 0 where
+  pub stream : StreamSignature
+  pub is : slice_get sig.streams x ≡ Some stream
+  pub type_is : stream.ty ≡ t
 
 -- a drop keeps one initial value at least
-pub record DropHasType (s : TreeSpec) (x k : ℕ) (t : Ty) : Type 0 where
-  pub item : TreeStream
-  pub is : slice_get s.streams x ≡ Some item
-  pub type_is : item.ty ≡ t
-  pub within : k < initial_count s.types item
+pub record DropHasType (sig : Signature) (x k : ℕ) (t : Ty) : Type 0 where
+  pub stream : StreamSignature
+  pub is : slice_get sig.streams x ≡ Some stream
+  pub type_is : stream.ty ≡ t
+  pub within : k < stream.count
 
 -- a type is this array, or has this member
 abbrev pub IsArrayOf : List TypeEntry → Ty → Ty → ℕ → Type 0
@@ -111,39 +102,39 @@ abbrev pub field_types : List Field → List Ty
 field_types fields = map (λ (f : Field). f.ty) fields
 
 abbrev mutual
-  -- an expression of a specification has this type
-  pub HasType : TreeSpec → Term → Ty → Type 0
-  HasType s (lit c w) t = IsTrue (is_word c w) × (t ≡ ty.Scalar c)
-  HasType s (extern x) t = ExternHasType s x t
-  HasType s (stream x) t = StreamHasType s x t
-  HasType s (def d) t = DefHasType s d t
-  HasType s (named d a) t = DefHasType s d t × HasType s a t
-  HasType s missing t = ⊥
-  HasType s (dropped x k) t = DropHasType s x k t
-  HasType s (un o c a) t = IsTrue (op1_fits o c) × HasType s a (ty.Scalar c) × (t ≡ ty.Scalar c)
-  HasType s (bin o c a b) t = IsTrue (op2_fits o c) × HasType s a (ty.Scalar c) × HasType s b (ty.Scalar c) × (t ≡ ty.Scalar (op2_gives o c))
-  HasType s (shift d c a cs n) t = IsTrue (shift_fits c cs) × HasType s a (ty.Scalar c) × HasType s n (ty.Scalar cs) × (t ≡ ty.Scalar c)
-  HasType s (cast from to a) t = IsTrue (cast_fits from to) × HasType s a (ty.Scalar from) × (t ≡ ty.Scalar to)
-  HasType s (and a b) t = HasType s a bool × HasType s b bool × (t ≡ bool)
-  HasType s (or a b) t = HasType s a bool × HasType s b bool × (t ≡ bool)
-  HasType s (implies a b) t = HasType s a bool × HasType s b bool × (t ≡ bool)
-  HasType s (choose c a b) t = HasType s c bool × HasType s a t × HasType s b t
-  HasType s (index of a i) t = (n : ℕ) × IsArrayOf s.types of t n × HasType s a of × HasType s i word32
-  HasType s (field of k a) t = HasMember s.types of k t × HasType s a of
-  HasType s (array of es) t = (elem : Ty) × (n : ℕ) × IsArrayOf s.types of elem n × HaveTypes s es (replicate n elem) × (t ≡ of)
-  HasType s (struct of es) t = (fields : List Field) × IsStructOf s.types of fields × HaveTypes s es (field_types fields) × (t ≡ of)
-  HasType s (abs c a) t = IsTrue (is_integer c) × HasType s a (ty.Scalar c) × (t ≡ ty.Scalar c)
-  HasType s (sign c a) t = IsTrue (is_integer c) × HasType s a (ty.Scalar c) × (t ≡ ty.Scalar c)
-  HasType s (majority c es) t = AreVotes es × HaveTypes s es (replicate (terms_length es) (ty.Scalar c)) × (t ≡ ty.Scalar c)
-  HasType s (agreed c es) t = AreVotes es × HaveTypes s es (replicate (terms_length es) (ty.Scalar c)) × (t ≡ bool)
-  HasType s (lib k form es) t = IsGoodForm form × HaveTypes s es (operand_types form) × (t ≡ form_gives form)
+  -- an expression over these types and declarations has this type
+  pub HasType : Signature → Term → Ty → Type 0
+  HasType sig (lit c w) t = IsTrue (is_word c w) × (t ≡ ty.Scalar c)
+  HasType sig (extern x) t = slice_get sig.externs x ≡ Some t
+  HasType sig (stream x) t = StreamHasType sig x t
+  HasType sig (def d) t = slice_get sig.defs d ≡ Some t
+  HasType sig (named d a) t = (slice_get sig.defs d ≡ Some t) × HasType sig a t
+  HasType sig missing t = ⊥
+  HasType sig (dropped x k) t = DropHasType sig x k t
+  HasType sig (un o c a) t = IsTrue (op1_fits o c) × HasType sig a (ty.Scalar c) × (t ≡ ty.Scalar c)
+  HasType sig (bin o c a b) t = IsTrue (op2_fits o c) × HasType sig a (ty.Scalar c) × HasType sig b (ty.Scalar c) × (t ≡ ty.Scalar (op2_gives o c))
+  HasType sig (shift d c a cs n) t = IsTrue (shift_fits c cs) × HasType sig a (ty.Scalar c) × HasType sig n (ty.Scalar cs) × (t ≡ ty.Scalar c)
+  HasType sig (cast from to a) t = IsTrue (cast_fits from to) × HasType sig a (ty.Scalar from) × (t ≡ ty.Scalar to)
+  HasType sig (and a b) t = HasType sig a bool × HasType sig b bool × (t ≡ bool)
+  HasType sig (or a b) t = HasType sig a bool × HasType sig b bool × (t ≡ bool)
+  HasType sig (implies a b) t = HasType sig a bool × HasType sig b bool × (t ≡ bool)
+  HasType sig (choose c a b) t = HasType sig c bool × HasType sig a t × HasType sig b t
+  HasType sig (index of a i) t = (n : ℕ) × IsArrayOf sig.types of t n × HasType sig a of × HasType sig i word32
+  HasType sig (field of k a) t = HasMember sig.types of k t × HasType sig a of
+  HasType sig (array of es) t = (elem : Ty) × (n : ℕ) × IsArrayOf sig.types of elem n × HaveTypes sig es (replicate n elem) × (t ≡ of)
+  HasType sig (struct of es) t = (fields : List Field) × IsStructOf sig.types of fields × HaveTypes sig es (field_types fields) × (t ≡ of)
+  HasType sig (abs c a) t = IsTrue (is_integer c) × HasType sig a (ty.Scalar c) × (t ≡ ty.Scalar c)
+  HasType sig (sign c a) t = IsTrue (is_integer c) × HasType sig a (ty.Scalar c) × (t ≡ ty.Scalar c)
+  HasType sig (majority c es) t = AreVotes es × HaveTypes sig es (replicate (terms_length es) (ty.Scalar c)) × (t ≡ ty.Scalar c)
+  HasType sig (agreed c es) t = AreVotes es × HaveTypes sig es (replicate (terms_length es) (ty.Scalar c)) × (t ≡ bool)
+  HasType sig (lib k form es) t = IsGoodForm form × HaveTypes sig es (operand_types form) × (t ≡ form_gives form)
 
   -- as many expressions as types, each of its type
-  pub HaveTypes : TreeSpec → Terms → List Ty → Type 0
-  HaveTypes s end [] = Unit {0}
-  HaveTypes s end (t ∷ ts) = ⊥
-  HaveTypes s (more a es) [] = ⊥
-  HaveTypes s (more a es) (t ∷ ts) = HasType s a t × HaveTypes s es ts
+  pub HaveTypes : Signature → Terms → List Ty → Type 0
+  HaveTypes sig end [] = Unit {0}
+  HaveTypes sig end (t ∷ ts) = ⊥
+  HaveTypes sig (more a es) [] = ⊥
+  HaveTypes sig (more a es) (t ∷ ts) = HasType sig a t × HaveTypes sig es ts
 
 -- ---- initial values
 
@@ -170,10 +161,9 @@ nesting types t = nesting_at (nestings [] types) t
 
 -- 1 to 65,536 values of a type, each of at most 64 lists within each other
 pub record AreInitial (types : List TypeEntry) (t : Ty) (init : List ℕ) : Type 0 where
-  pub count : ℕ
-  pub some : 1 ≤ count
-  pub most : count ≤ 65536
-  pub values : AreWords (repeated count (leaves types t)) init
+  pub some : 1 ≤ value_count types t init
+  pub most : value_count types t init ≤ 65536
+  pub values : AreWords (repeated (value_count types t init) (leaves types t)) init
   pub flat : nesting types t ≤ 64
 
 -- ---- names
@@ -217,47 +207,47 @@ pub record HasGoodNames (s : SpecValue) : Type 0 where
 
 -- ---- the whole
 
-abbrev pub RootHasType : TreeSpec → TreeRoot → Type 0
-RootHasType s r = HasType s r.expr r.ty
+abbrev pub RootHasType : Signature → TreeRoot → Type 0
+RootHasType sig r = HasType sig r.expr r.ty
 
 -- a guard is a truth value, and there are at most 16 arguments
-pub record IsGoodTrigger (s : TreeSpec) (x : TreeTrigger) : Type 0 where
-  pub guard : RootHasType s x.guard
+pub record IsGoodTrigger (sig : Signature) (x : TreeTrigger) : Type 0 where
+  pub guard : RootHasType sig x.guard
   pub truth : x.guard.ty ≡ bool
-  pub args : All (RootHasType s) x.args
+  pub args : All (RootHasType sig) x.args
   pub few : length x.args ≤ 16
 
-pub record IsGoodStream (s : TreeSpec) (x : TreeStream) : Type 0 where
-  pub stands : Stands s.types x.ty
-  pub initial : AreInitial s.types x.ty x.init
-  pub expr : HasType s x.expr x.ty
+pub record IsGoodStream (sig : Signature) (x : TreeStream) : Type 0 where
+  pub stands : Stands sig.types x.ty
+  pub initial : AreInitial sig.types x.ty x.init
+  pub expr : HasType sig x.expr x.ty
 
-pub record IsGoodDef (s : TreeSpec) (x : TreeDef) : Type 0 where
-  pub stands : Stands s.types x.ty
-  pub expr : HasType s x.expr x.ty
+pub record IsGoodDef (sig : Signature) (x : TreeDef) : Type 0 where
+  pub stands : Stands sig.types x.ty
+  pub expr : HasType sig x.expr x.ty
 
 -- as many expressions as types, each of its type
-abbrev pub ListHasTypes : TreeSpec → List Term → List Ty → Type 0
-ListHasTypes s [] [] = Unit {0}
-ListHasTypes s [] (t ∷ ts) = ⊥
-ListHasTypes s (e ∷ es) [] = ⊥
-ListHasTypes s (e ∷ es) (t ∷ ts) = HasType s e t × ListHasTypes s es ts
+abbrev pub ListHasTypes : Signature → List Term → List Ty → Type 0
+ListHasTypes sig [] [] = Unit {0}
+ListHasTypes sig [] (t ∷ ts) = ⊥
+ListHasTypes sig (e ∷ es) [] = ⊥
+ListHasTypes sig (e ∷ es) (t ∷ ts) = HasType sig e t × ListHasTypes sig es ts
 
 -- the form's bounds and operands, also where no expression names the form
-pub record IsGoodLib (s : TreeSpec) (x : TreeLib) : Type 0 where
+pub record IsGoodLib (sig : Signature) (x : TreeLib) : Type 0 where
   pub form : IsGoodForm x.form
-  pub args : ListHasTypes s x.args (operand_types x.form)
+  pub args : ListHasTypes sig x.args (operand_types x.form)
 
 -- each expression has the type that is written with it, each number names something, and names, initial values, drops,
 -- bounds and counts are as the language wants them
 pub record WellTyped (s : SpecValue) : Type 0 where
   pub types : IsTypeList s.types
   pub ordered : Ordered s.nodes s.libs
-  pub nodes : (i : ℕ) → i < length s.nodes → (t : Ty) × HasType (trees s) (tree s.nodes s.libs i) t
+  pub nodes : (i : ℕ) → i < length s.nodes → (t : Ty) × HasType (signature_of (trees s)) (tree s.nodes s.libs i) t
   pub externs : All (λ (x : ExternItem). Stands s.types x.ty) s.externs
-  pub streams : All (IsGoodStream (trees s)) (trees s).streams
-  pub defs : All (IsGoodDef (trees s)) (trees s).defs
-  pub triggers : All (IsGoodTrigger (trees s)) (trees s).triggers
-  pub observers : All (λ (x : TreeObserver). RootHasType (trees s) x.root) (trees s).observers
-  pub libs : All (IsGoodLib (trees s)) (trees s).libs
+  pub streams : All (IsGoodStream (signature_of (trees s))) (trees s).streams
+  pub defs : All (IsGoodDef (signature_of (trees s))) (trees s).defs
+  pub triggers : All (IsGoodTrigger (signature_of (trees s))) (trees s).triggers
+  pub observers : All (λ (x : TreeObserver). RootHasType (signature_of (trees s)) x.root) (trees s).observers
+  pub libs : All (IsGoodLib (signature_of (trees s))) (trees s).libs
   pub names : HasGoodNames s

@@ -1,8 +1,8 @@
 // What each form of an expression weighs, by what its operands weigh.
-ghost use Rattle.std.specs.Prelude.{◌≡◌, ◌+◌, ◌*◌, ◌≤◌, if◌then◌else◌};
+ghost use Rattle.std.specs.Prelude.{◌≡◌, ◌+◌, ◌-◌, ◌*◌, ◌≤◌, if◌then◌else◌};
 ghost use Rattle.stream_types.specs.Types.{signed};
 ghost use Rattle.stream_core.specs.WellTyped.{IsGoodForm};
-ghost use Rattle.stream_core.specs.Weights.{best_weight, buffers_weight, form_weight, operands, since_weight, span_weight};
+ghost use Rattle.stream_core.specs.Weights.{best_weight, buffers_weight, form_weight, heaviest_buffer, operands, since_weight, span_weight};
 
 use crate::node::LibForm;
 use stream_types::Scalar;
@@ -22,6 +22,26 @@ pub(crate) fn sign_weight(s: Scalar, operand: u64) -> u64
         Scalar::Int8 | Scalar::Int16 | Scalar::Int32 | Scalar::Int64 => 2 * operand + 9,
         _ => operand + 5,
     }
+}
+
+// The vote of most, where `all` votes weigh so much together and the first one so much.
+pub(crate) fn majority_weight(votes: u64, first: u64, all: u64) -> u64
+    requires votes { votes ≤ 9 }
+    requires first { first ≤ 262145 }
+    requires all { all ≤ 262145 }
+    ensures { result ≡ votes * (5 * votes + all + 2) + (votes + 1) * all + first }
+{
+    votes * (5 * votes + all + 2) + (votes + 1) * all + first
+}
+
+// Whether most votes agree.
+pub(crate) fn agreed_weight(votes: u64, all: u64) -> u64
+    requires some { 1 ≤ votes }
+    requires few { votes ≤ 9 }
+    requires all { all ≤ 262145 }
+    ensures { result ≡ votes * (5 * votes + all + 1) + votes * all + (votes - 1) }
+{
+    votes * (5 * votes + all + 1) + votes * all + (votes - 1)
 }
 
 // The expression that stands for a form.
@@ -57,6 +77,18 @@ pub(crate) fn buffers_weight(form: LibForm, p: u64, q: u64) -> u64
         LibForm::SinceIn(_, _) => p + q,
         LibForm::Clock(_, _) => 8,
         _ => p,
+    }
+}
+
+// The heaviest of them.
+pub(crate) fn heaviest_buffer(form: LibForm, p: u64, q: u64) -> u64
+    requires p { p ≤ 262145 }
+    requires q { q ≤ 262145 }
+    ensures { result ≡ heaviest_buffer form (operands form p q) }
+{
+    match form {
+        LibForm::SinceIn(_, _) => p.max(q),
+        _ => buffers_weight(form, p, q),
     }
 }
 

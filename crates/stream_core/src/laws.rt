@@ -5,14 +5,18 @@ ghost use Rattle.stream_types.specs.declared.scalar.Scalar.{Scalar};
 ghost use Rattle.stream_types.specs.Numbers.{number};
 ghost use Rattle.stream_core.specs.Value.{SpecValue};
 ghost use Rattle.stream_types.specs.declared.scalar.Ty.{Ty};
-ghost use Rattle.stream_core.specs.Term.{Term, TreeDef, TreeSpec, TreeTrigger, defs_of};
+ghost use Rattle.stream_core.specs.Term.{Term, TreeDef, TreeTrigger, build, closed, closed_def, def, defs_of, tree};
+ghost use Rattle.stream_core.specs.Signature.{Signature};
 ghost use Rattle.stream_core.specs.Acyclic.{Acyclic, WellFounded};
 ghost use Rattle.stream_core.specs.Soundness.{HasNoCycle};
 ghost use Rattle.stream_core.specs.WellTyped.{HasType, WellTyped};
 ghost use Rattle.stream_core.specs.Library.{greatest_word, least_word};
 ghost use Rattle.stream_core.specs.Eval.{Table, or_none};
 ghost use Rattle.stream_core.specs.Equations.{IsFront};
-ghost use Rattle.stream_core.specs.Handlers.{calls_of, handler_of};
+ghost use Rattle.stream_core.specs.Handlers.{calls_of, handler_of, handlers_after};
+ghost use Rattle.stream_core.specs.declared.node.Node.{Node};
+ghost use Rattle.stream_core.specs.declared.spec.LibItem.{LibItem};
+ghost use Rattle.stream_core.specs.Ordered.{Ordered};
 ghost use Rattle.stream_core.specs.Meaning.{Bounded, Clean, Meets, calls, closed_spec, handlers, log, step, table};
 
 /// The equations of the streams: a stream of `len` initial values has `len + n` values after `n` steps without
@@ -58,11 +62,13 @@ pub fn calls_grow()
     ensures { (s : SpecValue) (h : List (List ℕ)) (n : ℕ) → calls s h (n + 1) ≡ calls s h n ++ calls_of (closed_spec s) (or_none (step s h n)) ∷ [] }
 {}
 
-/// No two handlers have one name, a trigger's handler has the trigger's name, and each handler is some trigger's name.
+/// No two handlers have one name, a trigger's handler has the trigger's name, each handler is some trigger's name, and
+/// the handlers of the first triggers begin those of all.
 pub fn handlers_are_named_once()
     ensures once { (s : SpecValue) (i j : ℕ) (name : List ℕ) → slice_get (handlers s) i ≡ Some name → slice_get (handlers s) j ≡ Some name → i ≡ j }
     ensures only { (s : SpecValue) (i : ℕ) (name : List ℕ) → slice_get (handlers s) i ≡ Some name
         → (k : ℕ) × (x : TreeTrigger) × (slice_get (closed_spec s).triggers k ≡ Some x) × (x.name ≡ name) }
+    ensures ordered { (front back : List TreeTrigger) → (more : List (List ℕ)) × (handlers_after [] (front ++ back) ≡ handlers_after [] front ++ more) }
     ensures named { (s : SpecValue) (i : ℕ) (x : TreeTrigger) → slice_get (closed_spec s).triggers i ≡ Some x → slice_get (handlers s) (handler_of (closed_spec s) i) ≡ Some x.name }
 {}
 
@@ -80,7 +86,7 @@ pub fn least_words_are_least()
 
 /// An expression has at most one type.
 pub fn expressions_have_one_type()
-    ensures { (s : TreeSpec) (e : Term) (t u : Ty) → HasType s e t → HasType s e u → t ≡ u }
+    ensures { (sig : Signature) (e : Term) (t u : Ty) → HasType sig e t → HasType sig e u → t ≡ u }
 {}
 
 /// Where ranks fall along mentions there is no cycle of defs.
@@ -96,4 +102,13 @@ pub fn no_cycle_gives_ranks()
 /// A well typed specification whose defs have ranks is what `Spec::node` asks for.
 pub fn well_typed_specs_have_trees()
     ensures { (s : SpecValue) → WellTyped s → Acyclic (defs_of s) → WellFounded s }
+{}
+
+/// The tree of a node is its form over the trees of its parts; with defs written out, over those of its parts and of the
+/// def that it names.
+pub fn trees_are_built_of_their_parts()
+    ensures tree { (nodes : List Node) (libs : List LibItem) (i : ℕ) (n : Node) → Ordered nodes libs → slice_get nodes i ≡ Some n
+        → tree nodes libs i ≡ build libs def (tree nodes libs) n }
+    ensures closed { (s : SpecValue) (i : ℕ) (n : Node) → WellFounded s → slice_get s.nodes i ≡ Some n
+        → closed s i ≡ build s.libs (closed_def s) (closed s) n }
 {}

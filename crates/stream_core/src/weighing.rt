@@ -12,14 +12,16 @@ ghost use Rattle.stream_core.specs.Term.{defs_of};
 ghost use Rattle.stream_core.specs.WellTyped.{WellTyped};
 ghost use Rattle.stream_core.specs.Weights.{IsGoodItem, IsGoodNode, IsTriggerThere, agreed_weight, buffers_weight, form_weight, heavy, heavy_at, libs_weight, majority_weight, node_weight, nodes_weight, observers_weight, roots_weight, streams_weight, triggers_weight};
 
-use crate::form_weights::{abs_weight, buffers_weight, sign_weight, value_weight};
+use crate::form_weights::{
+    abs_weight, agreed_weight, buffers_weight, majority_weight, sign_weight, value_weight,
+};
 use crate::node::{Node, NodeId};
 use crate::spec::{LibItem, ObserverItem, Root, Spec, StreamItem, TriggerItem};
 
 // Each call counts up to `most`. What it visits adds 1 at least to the count, but a node that weighs what its operand
 // weighs: a mention of a def, a window of one sample, `once-in 0 0` and `historically-in 0 0`.
 #[cycle(weighing)]
-pub(crate) fn weigh(spec: &Spec, id: NodeId, most: u64) -> u64
+fn weigh(spec: &Spec, id: NodeId, most: u64) -> u64
     requires founded { WellFounded spec.now }
     requires typed { WellTyped spec.now }
     requires there { id < length spec.now.nodes }
@@ -95,7 +97,7 @@ fn weigh_all(spec: &Spec, ids: &[NodeId], most: u64) -> u64
 
 // The node at a place of a list, or nothing past its end.
 #[cycle(weighing)]
-pub(crate) fn weigh_at(spec: &Spec, ids: &[NodeId], at: usize, most: u64) -> u64
+fn weigh_at(spec: &Spec, ids: &[NodeId], at: usize, most: u64) -> u64
     requires founded { WellFounded spec.now }
     requires typed { WellTyped spec.now }
     requires there { AllByRecursion (λ j. j < length spec.now.nodes) ids.now }
@@ -121,9 +123,7 @@ fn weigh_majority(spec: &Spec, votes: &[NodeId], most: u64) -> u64
 {
     let first = weigh_at(spec, votes, 0, most - 1);
     let others = weigh_all(spec, &votes[1..], most - 1 - first);
-    let n = votes.len() as u64;
-    let all = first + others;
-    (n * (5 * n + all + 2) + (n + 1) * all + first).min(most)
+    majority_weight(votes.len() as u64, first, first + others).min(most)
 }
 
 #[cycle(weighing)]
@@ -138,8 +138,7 @@ fn weigh_agreed(spec: &Spec, votes: &[NodeId], most: u64) -> u64
     ensures { result ≡ min (agreed_weight (map (heavy spec.now) votes.now)) most }
 {
     let all = weigh_all(spec, votes, most - 1);
-    let n = votes.len() as u64;
-    (n * (5 * n + all + 1) + n * all + (n - 1)).min(most)
+    agreed_weight(votes.len() as u64, all).min(most)
 }
 
 #[cycle(weighing)]

@@ -5,3 +5,6 @@ pub mod TypeLists
 pub mod Twins
 pub mod Widths
 pub mod LeafWords
+pub mod LeafEntries
+pub mod LeafParts
+pub mod AnsweredWords

@@ -1,6 +1,6 @@
 -- What an operator answers is a word of its answer's scalar.
 use Rattle.std.proofs.Common.{◌≡◌, ℕ, suc, ◌+◌, ◌-◌, ◌%◌, ◌^◌, ◌<◌, ◌≤◌, Bool, true, false, refl, arith, Result, Ok, Err, ◌∙◌, ap}
-use Rattle.std.specs.Prelude.{ℤ, pos, negsuc, IsTrue, IfOk, nat_lt, ◌&&◌, ◌-ℤ◌, int_div, int_rem, unsigned_abs, if◌then◌else◌}
+use Rattle.std.specs.Prelude.{ℤ, pos, negsuc, IsTrue, IfOk, nat_lt, ◌-ℤ◌, int_div, int_rem, unsigned_abs, if◌then◌else◌}
 use Rattle.std.specs.Int.Bits.{and_lt}
 use Rattle.std.proofs.lemmas.Bool.Decides.{nat_tests}
 use Rattle.std.proofs.lemmas.Int.{ints, rem_below}
@@ -41,7 +41,7 @@ test : (P : ℤ → Type 0) (c : Bool) (z : ℤ) → (c ≡ true → P z) → If
 test P true z h = h refl
 test P false z h = tt
 
-fit_in_range : (n : ℕ) (sign : Bool) (z : ℤ) → IfOk (fit n sign z) (λ y. IsTrue (in_range n sign y))
+pub fit_in_range : (n : ℕ) (sign : Bool) (z : ℤ) → IfOk (fit n sign z) (λ y. IsTrue (in_range n sign y))
 fit_in_range n true z = test _ (in_range n true z) z (λ h. h)
 fit_in_range n false (pos m) = let p : 0 < 2 ^ n = pow_pos n in grind (arith, nat_tests)
 fit_in_range n false (negsuc m) = let p : 0 < 2 ^ n = pow_pos n in grind (arith, nat_tests)
@@ -100,7 +100,7 @@ remainder_in_range n sign a b p q = choice _ (is_zero b) (in_range n sign (int_d
 -- ---- at the scalars
 
 -- a result in range gives a word of an integer
-as_word_is : (s : Scalar) (r : Result ℤ Hazard) → IsTrue (is_integer s) → IfOk r (λ z. IsTrue (in_range (bits s) (signed s) z)) → IfOk (as_word r) (λ w. IsTrue (is_word s w))
+pub as_word_is : (s : Scalar) (r : Result ℤ Hazard) → IsTrue (is_integer s) → IfOk r (λ z. IsTrue (in_range (bits s) (signed s) z)) → IfOk (as_word r) (λ w. IsTrue (is_word s w))
 as_word_is scalar.Bool r i h = absurd (cc)
 as_word_is s (Err e) i h = tt
 as_word_is scalar.Int8 (Ok z) i h = is_word_at-word 8 true z (omega arith) (omega arith) h
@@ -112,7 +112,7 @@ as_word_is scalar.Word16 (Ok z) i h = is_word_at-word 16 false z (omega arith) (
 as_word_is scalar.Word32 (Ok z) i h = is_word_at-word 32 false z (omega arith) (omega arith) h
 as_word_is scalar.Word64 (Ok z) i h = is_word_at-word 64 false z (omega arith) (omega arith) h
 
-number_in_range : (s : Scalar) (a : ℕ) → IsTrue (is_integer s) → IsTrue (is_word s a) → IsTrue (in_range (bits s) (signed s) (number s a))
+pub number_in_range : (s : Scalar) (a : ℕ) → IsTrue (is_integer s) → IsTrue (is_word s a) → IsTrue (in_range (bits s) (signed s) (number s a))
 number_in_range scalar.Bool a i h = absurd (cc)
 number_in_range scalar.Int8 a i h = right_passes _ _ h
 number_in_range scalar.Int16 a i h = right_passes _ _ h
@@ -138,7 +138,7 @@ of_test_is_word : (b : Bool) → IsTrue (is_word scalar.Bool (word (of_test b)))
 of_test_is_word true = refl
 of_test_is_word false = refl
 
-from_bits : (s : Scalar) (b : ℕ) → IsTrue (is_integer s) → b < 2 ^ bits s → IsTrue (is_word s (word (from_twos (bits s) (signed s) b)))
+pub from_bits : (s : Scalar) (b : ℕ) → IsTrue (is_integer s) → b < 2 ^ bits s → IsTrue (is_word s (word (from_twos (bits s) (signed s) b)))
 from_bits s b i h = as_word_is s (Ok (from_twos (bits s) (signed s) b)) i (from_twos_in_range (bits s) (signed s) b (bits_some s) h)
 
 pub op2_answer : (o : Op2) (s : Scalar) (a b : ℕ) → IsTrue (op2_fits o s) → IsTrue (is_word s a) → IsTrue (is_word s b) → IfOk (op2_word o s a b) (λ w. IsTrue (is_word (op2_gives o s) w))

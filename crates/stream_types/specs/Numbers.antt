@@ -82,7 +82,7 @@ is_zero z = nat_eq (unsigned_abs z) 0
 abbrev pub quotient : ℕ → Bool → ℤ → ℤ → Result ℤ Hazard
 quotient n sign a b = if is_zero b then Err ZeroDivisor else if in_range n sign (int_div a b) then Ok (int_div a b) else Err Overflow
 
--- what the quotient leaves over, with the dividend's sign; a hazard where the quotient is one
+-- what the quotient leaves over, with the dividend's sign; Overflow where the quotient is out of range
 abbrev pub remainder : ℕ → Bool → ℤ → ℤ → Result ℤ Hazard
 remainder n sign a b = if is_zero b then Err ZeroDivisor else if in_range n sign (int_div a b) then Ok (int_rem a b) else Err Overflow
 

@@ -9,6 +9,7 @@ mod arithmetic;
 mod bitwise;
 mod comparison;
 mod int_ty;
+mod laws;
 mod number;
 mod op_table;
 mod ops;
@@ -17,6 +18,10 @@ mod shifts;
 mod types;
 
 pub use int_ty::IntTy;
+pub use laws::{
+    leaves_follow_entries, operators_answer_words, parts_are_words, types_stay_in_longer_lists,
+    values_have_a_word_for_each_leaf,
+};
 pub use op_table::{
     BOOL, INTEGERS, OpTable, SCALARS, cast_applies, op1_applies, op2_applies, shift_applies,
     tables_hold_their_scalars,

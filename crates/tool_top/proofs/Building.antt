@@ -1,8 +1,7 @@
 -- A specification that a surface of what is built stands for is one whose program is built.
-use Rattle.std.specs.Prelude.{◌≡◌, ℕ, List, [], ◌∷◌, map, slice_get, Option, Some, None, All}
+use Rattle.std.specs.Prelude.{◌≡◌, ℕ, List, [], ◌∷◌, map, slice_get, Option, Some, None}
 use Rattle.std.specs.List.{AllByRecursion}
 use Rattle.std.proofs.Common.{refl, ap, sym, subst}
-use Rattle.std.proofs.lemmas.List.Elements.{All-nil, All-cons}
 use Rattle.stream_types.specs.declared.scalar.Scalar.TheVariants as scalar
 use Rattle.stream_types.specs.declared.scalar.Ty.TheVariants as ty
 use Rattle.stream_core.specs.Value.{SpecValue}

@@ -5,7 +5,7 @@ use Rattle.stream_core.specs.Value.{SpecValue}
 use Rattle.c99_tree.specs.declared.unit.Unit.{Unit as CUnit}
 use Rattle.c99_tree.specs.Spelling.{Spells}
 use Rattle.ring_codegen.specs.Simulation.{Simulates}
-use Rattle.tool_top.specs.Answer.{IsProgramOf}
+use Rattle.tool_top.specs.Compile.{IsProgramOf}
 
 -- two texts spell at most one program
 abbrev pub OneUnit : Type 0

@@ -1,6 +1,6 @@
 -- What is known of a sound specification, and how a fault of soundness stops a run.
 use Rattle.std.specs.Prelude.{◌≡◌, ◌≤◌, ℕ, List, nat_lt, if◌then◌else◌, Option, Some, None}
-use Rattle.std.proofs.Common.{refl, sym, subst, inl, inr, arith}
+use Rattle.std.proofs.Common.{refl, sym, subst, inr, arith}
 use Rattle.std.proofs.lemmas.Bool.Decides.{nat_tests}
 use Rattle.stream_core.specs.Value.{SpecValue}
 use Rattle.stream_core.specs.Term.{trees}

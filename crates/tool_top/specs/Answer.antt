@@ -1,118 +1,110 @@
--- What the top call answers, and the files that each answer leaves.
-use Rattle.std.specs.Prelude.{◌≡◌, ℕ, ◌⊎◌, List, Option, Some, None, Result, Ok, Err}
-use Rattle.sm_io.specs.Files.{Files, with_file, SameBut}
-use Rattle.sm_io.specs.Fetch.{fetched}
-use Rattle.sm_io.specs.declared.outside.FetchFault.{FetchFault}
+-- What a run may answer, and what each answer rests on.
+use Rattle.std.specs.Prelude.{◌≡◌, ℕ, ◌⊎◌, List, [], ◌∷◌, Option, Some, None, Result, Ok, Err, Contains}
+use Rattle.sm_io.specs.Causes.{Rose}
+use Rattle.sm_io.specs.Files.{Files}
 use Rattle.sm_io.specs.declared.outside.FetchFault.TheVariants as fetch
 use Rattle.stream_core.specs.Value.{SpecValue}
-use Rattle.c99_tree.specs.declared.unit.Unit.{Unit as CUnit}
-use Rattle.c99_tree.specs.Spelling.{Spells}
-use Rattle.ring_codegen.specs.Simulation.{Simulates}
-use Rattle.tool_top.specs.Analysis.{Means, HasFirstFault, too_long, nowhere}
-use Rattle.tool_top.specs.Command.{CommandValue, compile, unbuilt, no_command, header_file, source_file}
+use Rattle.spec_text.specs.declared.surface.Surface.{Surface}
+use Rattle.tool_top.specs.Analysis.{Shapes, Means, HasFirstFault, too_long, at_place}
+use Rattle.tool_top.specs.Command.{CommandValue, compile, interpret, cexec, demo}
+use Rattle.tool_top.specs.Outside.{Outside, ShelfFailed, InputFailed, OutFailed, NothingFailed}
+use Rattle.tool_top.specs.Wanted.{Unread, wanted, contents}
 use Rattle.tool_top.specs.declared.outcome.Outcome.{Outcome}
-use Rattle.tool_top.specs.declared.outcome.Outcome.TheVariants.{Done, Refused, Usage, ReadFault, WriteFault, Missing, NoMemory}
+use Rattle.tool_top.specs.declared.outcome.Outcome.TheVariants.{Done, Refused, Usage, Hazard, Undefined, BadRow, ReadFault, WriteFault, Missing, NoMemory}
 use Rattle.tool_top.specs.declared.outcome.Refusal.{Refusal}
 use Rattle.tool_top.specs.declared.outcome.RefusalKind.TheVariants as kind
 
--- ---- the content
+-- ---- refused content
 
--- the most bytes of a specification
-abbrev pub text_limit : ℕ
-text_limit = 1048576
+-- the first node, in preorder, of an accepted surface that the command doesn't run; every command that is built runs
+-- all that is accepted
+abbrev pub first_unrun : CommandValue → Surface → Option ℕ
+first_unrun _ surface = None
 
--- what a file holds, where it is there and within the limit
-abbrev pub text_of : List ℕ → Files → Result (List ℕ) FetchFault
-text_of file files = fetched files file text_limit
-
--- the file's text stands for this specification
-pub record IsSource (file : List ℕ) (files : Files) (s : SpecValue) : Type 0 where
-  pub text : List ℕ
-  pub text_is : text_of file files ≡ Ok text
-  pub means : Means text s
-
--- A file's content is refused so: it is too long, or its text has this first fault.
-abbrev pub IsRefusedFor : Refusal → Result (List ℕ) FetchFault → Type 0
-IsRefusedFor refusal (Err fetch.TooLong) = refusal ≡ too_long
-IsRefusedFor refusal (Err fault) = ⊥
-IsRefusedFor refusal (Ok text) = HasFirstFault text refusal
-
--- How a run over a file stops before it puts anything. A read fault's cause is a clause of its own, and want of memory
--- is free.
-abbrev pub MayStop : List ℕ → Files → Outcome → Type 0
-MayStop file files (Refused refusal) = IsRefusedFor refusal (text_of file files)
-MayStop file files Missing = text_of file files ≡ Err fetch.Missing
-MayStop file files ReadFault = Unit {0}
-MayStop file files NoMemory = Unit {0}
-MayStop file files _ = ⊥
-
--- ---- compile
-
--- Two texts spell exactly one program, which is well formed, has this name and does what a specification means.
-pub record IsProgramOf (means : SpecValue) (name header source : List ℕ) : Type 0 where
-  pub program : CUnit
-  pub simulates : Simulates means name program
-  pub spelled : Spells program header source
-  pub only : (u : CUnit) → Spells u header source → u ≡ program
-
--- The text stands for a specification, and the two texts are such a program of it.
-pub record IsProgramFor (text name header source : List ℕ) : Type 0 where
+-- The text stands for a specification, and holds a node that the command doesn't run.
+pub record IsUnrun (command : CommandValue) (text : List ℕ) (refusal : Refusal) : Type 0 where
+  pub surface : Surface
+  pub shaped : Shapes text surface
   pub means : SpecValue
   pub source_is : Means text means
-  pub program : IsProgramOf means name header source
+  pub at : ℕ
+  pub first : first_unrun command surface ≡ Some at
+  pub refusal_is : refusal ≡ at_place kind.NotYet at
 
--- The texts are such a program for the file's text.
-pub record IsCompiled (spec name : List ℕ) (files : Files) (header source : List ℕ) : Type 0 where
-  pub text : List ℕ
-  pub text_is : text_of spec files ≡ Ok text
-  pub program : IsProgramFor text name header source
+-- The files that a command reads are there and within their limits, and their content is refused so.
+abbrev pub IsRefusedFor : CommandValue → List (List ℕ) → Refusal → Type 0
+IsRefusedFor (compile spec name) (text ∷ []) refusal = HasFirstFault text refusal ⊎ IsUnrun (compile spec name) text refusal
+IsRefusedFor _ texts refusal = ⊥
 
--- The told files with the two texts.
-abbrev pub both_files : List ℕ → List ℕ → List ℕ → Option Files → Option Files
-both_files name header source files = with_file (with_file files (header_file name) header) (source_file name) source
+-- The first file that can't be read has more bytes than it may, or the content is refused.
+abbrev pub IsRefusal : CommandValue → Result (List (List ℕ)) Unread → Refusal → Type 0
+IsRefusal _ (Err unread) refusal = (unread.fault ≡ fetch.TooLong) × (refusal ≡ too_long)
+IsRefusal row (Ok texts) refusal = IsRefusedFor row texts refusal
 
--- One of the two puts failed: its file is unknown, an earlier one has its text, and all other names are as before.
-abbrev pub OnePutFailed : List ℕ → List ℕ → Option Files → Option Files → Type 0
-OnePutFailed name header old new =
-    SameBut (header_file name) old new ⊎ SameBut (source_file name) (with_file old (header_file name) header) new
+-- How the files that a command reads stop it. A read fault's cause is told elsewhere, and want of memory is free.
+abbrev pub StopsAt : CommandValue → Result (List (List ℕ)) Unread → Outcome → Type 0
+StopsAt row read (Refused refusal) = IsRefusal row read refusal
+StopsAt _ read Missing = (name : List ℕ) × (read ≡ Err (record { name = name; fault = fetch.Missing }))
+StopsAt _ read ReadFault = Unit {0}
+StopsAt _ read NoMemory = Unit {0}
+StopsAt _ read _ = ⊥
 
--- What a compile answers, and the files that it then leaves.
-abbrev pub Compiles : List ℕ → List ℕ → Files → Option Files → Outcome → Type 0
-Compiles spec name files new Done =
-    (header source : List ℕ) × IsCompiled spec name files header source × (new ≡ both_files name header source (Some files))
-Compiles spec name files new WriteFault =
-    (header source : List ℕ) × IsCompiled spec name files header source × OnePutFailed name header (Some files) new
-Compiles spec name files new outcome = MayStop spec files outcome × (new ≡ Some files)
+-- ---- faults of the outside
 
--- ---- every command
+-- A fault of reading or of writing is told only where these failures came, and nothing failed where neither is told.
+abbrev pub TellsFaults : (Reads Writes : Type 0) → Outside → Outside → Outcome → Type 0
+TellsFaults Reads Writes before after ReadFault = Reads
+TellsFaults Reads Writes before after WriteFault = Writes
+TellsFaults Reads Writes before after outcome = NothingFailed before after
 
--- What a run answers, and the files that it then leaves. A command that isn't built is refused, and words of no
--- command are told the usage, before anything is read.
-abbrev pub Runs : CommandValue → Files → Option Files → Outcome → Type 0
-Runs (compile spec name) files new outcome = Compiles spec name files new outcome
-Runs unbuilt files new outcome = (outcome ≡ Refused (nowhere kind.NotYet)) × (new ≡ Some files)
-Runs no_command files new outcome = (outcome ≡ Usage) × (new ≡ Some files)
+-- the same of the folder's count alone
+abbrev pub TellsShelfFaults : ℕ → ℕ → Outcome → Type 0
+TellsShelfFaults before now ReadFault = Rose before now
+TellsShelfFaults before now WriteFault = Rose before now
+TellsShelfFaults before now outcome = now ≡ before
 
--- All was done, or memory ran out.
+-- none of the failures came that a command may tell
+abbrev pub IsQuiet : CommandValue → Outside → Outside → Type 0
+IsQuiet (interpret spec) before after = (¬ ShelfFailed before after) × (¬ InputFailed before after) × (¬ OutFailed before after)
+IsQuiet (cexec name) before after = (¬ ShelfFailed before after) × (¬ InputFailed before after) × (¬ OutFailed before after)
+IsQuiet (demo streams steps) before after = ¬ OutFailed before after
+IsQuiet _ before after = ¬ ShelfFailed before after
+
+-- ---- kinds of answers
+
+-- the answers of a command that reads and puts files alone
+abbrev pub IsFileAnswer : Outcome → Type 0
+IsFileAnswer Usage = ⊥
+IsFileAnswer (Hazard step kind) = ⊥
+IsFileAnswer (Undefined step kind) = ⊥
+IsFileAnswer (BadRow line fault) = ⊥
+IsFileAnswer outcome = Unit {0}
+
+-- all was done, or memory ran out
 abbrev pub IsFinished : Outcome → Type 0
 IsFinished Done = Unit {0}
 IsFinished NoMemory = Unit {0}
-IsFinished _ = ⊥
-
--- A text without a fault is compiled, where no count rose and memory was found.
-abbrev pub Completes : CommandValue → Option Files → Outcome → Type 0
-Completes (compile spec name) None outcome = Unit {0}
-Completes (compile spec name) (Some m) outcome = (s : SpecValue) → IsSource spec m s → IsFinished outcome
-Completes unbuilt files outcome = Unit {0}
-Completes no_command files outcome = Unit {0}
+IsFinished outcome = ⊥
 
 -- an answer that is neither a fault of the outside nor want of memory
 abbrev pub IsSettled : Outcome → Type 0
 IsSettled ReadFault = ⊥
 IsSettled WriteFault = ⊥
 IsSettled NoMemory = ⊥
-IsSettled _ = Unit {0}
+IsSettled outcome = Unit {0}
 
--- The outcome is a function of the words and the files, but for those answers.
-abbrev pub HasOneOutcome : Type 0
-HasOneOutcome = (command : CommandValue) (files : Files) (new new' : Option Files) (a b : Outcome) → IsSettled a → IsSettled b → Runs command files new a → Runs command files new' b → a ≡ b
+-- an answer that is given before the input is read
+abbrev pub IsEarly : Outcome → Type 0
+IsEarly Usage = Unit {0}
+IsEarly Missing = Unit {0}
+IsEarly (Refused refusal) = Unit {0}
+IsEarly outcome = ⊥
+
+-- ---- what the line on the error sink speaks of
+
+-- The file that is told missing is the first that can't be read, or, of a folder that isn't told, one that the command
+-- reads. No other line of a command that is built names anything.
+abbrev pub Names : CommandValue → Option Files → Outcome → List ℕ → Type 0
+Names row (Some files) Missing subject = contents files (wanted row) ≡ Err (record { name = subject; fault = fetch.Missing })
+Names row None Missing subject = (limit : ℕ) × Contains (wanted row) (record { name = subject; limit = limit })
+Names _ files outcome subject = Unit {0}

@@ -4,7 +4,7 @@ use Rattle.std.specs.List.{list_all, list_any, starts_with}
 use Rattle.std.specs.Cmp.Lexicographic.{pointwise}
 use Rattle.sm_io.specs.Names.{is_name_byte}
 use Rattle.sm_io.specs.Words.{is_name, has_front}
-use Rattle.spec_words.specs.Decimals.{is_decimal_between}
+use Rattle.spec_words.specs.Decimals.{is_decimal_between, value_of}
 use Rattle.tool_top.specs.declared.outcome.Tool.{Tool}
 use Rattle.tool_top.specs.declared.outcome.Tool.TheVariants.{Copilot, Ogma}
 use Rattle.tool_top.specs.declared.command.Command.{Command}
@@ -37,18 +37,31 @@ is_apart ends file name = not (list_any (is_file_of file name) ends)
 abbrev pub is_word : List ℕ → List ℕ → Bool
 is_word word wanted = pointwise nat_eq word wanted
 
--- a command with its words
+-- a row of the command table with its words
 pub data CommandValue : Type 0 where
   compile : (spec name : List ℕ) → CommandValue
-  -- a row of the table whose command isn't built
-  unbuilt : CommandValue
+  interpret : (spec : List ℕ) → CommandValue
+  cexec : (name : List ℕ) → CommandValue
+  demo : (streams steps : ℕ) → CommandValue
+  migrate : (old new : List ℕ) → CommandValue
+  standalone : (reqs spec : List ℕ) → CommandValue
+  cfs : (reqs name : List ℕ) → CommandValue
+  ros : (reqs name : List ℕ) → CommandValue
+  fprime : (reqs name : List ℕ) → CommandValue
   -- words of no row
   no_command : CommandValue
 
 -- a command as clauses see it
 abbrev pub value_of_command : Command → CommandValue
 value_of_command (command.Compile spec name) = compile spec.now name.now
-value_of_command command.Unbuilt = unbuilt
+value_of_command (command.Interpret spec) = interpret spec.now
+value_of_command (command.Cexec name) = cexec name.now
+value_of_command (command.Demo streams steps) = demo streams steps
+value_of_command (command.Migrate old new) = migrate old.now new.now
+value_of_command (command.Standalone reqs spec) = standalone reqs.now spec.now
+value_of_command (command.Cfs reqs name) = cfs reqs.now name.now
+value_of_command (command.Ros reqs name) = ros reqs.now name.now
+value_of_command (command.Fprime reqs name) = fprime reqs.now name.now
 value_of_command command.NoCommand = no_command
 
 -- the unit that a compile makes has a name
@@ -82,9 +95,13 @@ abbrev pub is_migrate : List ℕ → List ℕ → List ℕ → Bool
 is_migrate word old new = is_word word (codes "migrate") && is_name old && is_name new && not (is_word old new)
 
 abbrev pub copilot_command : List (List ℕ) → CommandValue
-copilot_command (word ∷ a ∷ []) = if is_interpret word a || is_cexec word a then unbuilt else no_command
+copilot_command (word ∷ a ∷ []) =
+    if is_interpret word a then interpret a else if is_cexec word a then cexec a else no_command
 copilot_command (word ∷ a ∷ b ∷ []) =
-    if is_compile word a b then compile a b else if is_demo word a b || is_migrate word a b then unbuilt else no_command
+    if is_compile word a b then compile a b
+    else if is_demo word a b then demo (value_of a) (value_of b)
+    else if is_migrate word a b then migrate a b
+    else no_command
 copilot_command _ = no_command
 
 -- ---- the rows of `ogma`
@@ -106,21 +123,18 @@ ros_ends = codes ".spec" ∷ codes "_node.cpp" ∷ []
 abbrev pub fprime_ends : List (List ℕ)
 fprime_ends = codes ".spec" ∷ codes ".fpp" ∷ codes "_fprime.cpp" ∷ []
 
-abbrev pub is_application : List ℕ → List ℕ → List ℕ → Bool
-is_application word reqs name =
-    is_frame (codes "cfs") cfs_ends word reqs name || is_frame (codes "ros") ros_ends word reqs name
-    || is_frame (codes "fprime") fprime_ends word reqs name
+abbrev pub application : List ℕ → List ℕ → List ℕ → CommandValue
+application word reqs name =
+    if is_frame (codes "cfs") cfs_ends word reqs name then cfs reqs name
+    else if is_frame (codes "ros") ros_ends word reqs name then ros reqs name
+    else if is_frame (codes "fprime") fprime_ends word reqs name then fprime reqs name
+    else no_command
 
 abbrev pub ogma_command : List (List ℕ) → CommandValue
-ogma_command (word ∷ a ∷ b ∷ []) = if is_standalone word a b || is_application word a b then unbuilt else no_command
+ogma_command (word ∷ a ∷ b ∷ []) = if is_standalone word a b then standalone a b else application word a b
 ogma_command _ = no_command
 
 -- the command that a tool's words are
 abbrev pub command_of : Tool → List (List ℕ) → CommandValue
 command_of Copilot words = copilot_command words
 command_of Ogma words = ogma_command words
-
--- the file that a command reads
-abbrev pub file_word : CommandValue → List ℕ
-file_word (compile spec name) = spec
-file_word _ = []

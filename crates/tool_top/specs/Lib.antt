@@ -2,4 +2,11 @@ pub mod Codes
 pub mod Lines
 pub mod Command
 pub mod Analysis
+pub mod Outside
+pub mod Wanted
+pub mod Puts
 pub mod Answer
+pub mod Compile
+pub mod Runs
+pub mod Session
+pub mod Interpret

@@ -1,20 +1,33 @@
 // The words of a run, and the command that they are.
-ghost use Rattle.std.specs.Prelude.{◌≡◌, ◌||◌, [], ◌∷◌, map, string_bytes, codes, IsTrue};
+ghost use Rattle.std.specs.Prelude.{◌≡◌, [], ◌∷◌, map, string_bytes, codes, IsTrue, IfSome, IfNone, true, false};
 ghost use Rattle.std.specs.List.{list_all};
 ghost use Rattle.sm_io.specs.Words.{is_name};
-ghost use Rattle.tool_top.specs.Command.{value_of_command, HasName, copilot_command, ogma_command, command_of, is_compile, is_interpret, is_cexec, is_demo, is_migrate, is_standalone, is_frame, cfs_ends, ros_ends, fprime_ends, is_application, is_file, is_file_byte, is_file_of, is_apart, is_word};
+ghost use Rattle.spec_words.specs.Decimals.{value_of};
+ghost use Rattle.tool_top.specs.Command.{value_of_command, HasName, copilot_command, ogma_command, command_of, is_compile, is_interpret, is_cexec, is_demo, is_migrate, is_standalone, is_frame, cfs_ends, ros_ends, fprime_ends, application, is_file, is_file_byte, is_file_of, is_apart, is_word};
 
 use crate::outcome::Tool;
 use sm_io::is_name;
 use spec_words::decimal_between;
 
-/// A command with its words.
+/// A row of the command table with its words.
 #[derive(Clone, Copy)]
 pub enum Command<'a> {
     /// The file of a specification, and the name of the unit that it becomes.
     Compile { spec: &'a str, name: &'a str },
-    /// A row of the command table whose command isn't built.
-    Unbuilt,
+    /// The file of a specification.
+    Interpret { spec: &'a str },
+    /// The name of a unit.
+    Cexec { name: &'a str },
+    /// How many streams, and how many steps.
+    Demo { streams: u32, steps: u32 },
+    /// The names of a unit of the old layout and of the new one.
+    Migrate { old: &'a str, new: &'a str },
+    /// The file of the requirements, and that of the specification.
+    Standalone { reqs: &'a str, spec: &'a str },
+    /// The file of the requirements, and the name of the application.
+    Cfs { reqs: &'a str, name: &'a str },
+    Ros { reqs: &'a str, name: &'a str },
+    Fprime { reqs: &'a str, name: &'a str },
     /// Words of no row.
     NoCommand,
 }
@@ -118,16 +131,18 @@ fn is_cexec(word: &[u8], name: &[u8]) -> bool
     is_name(name)
 }
 
-fn is_demo(word: &[u8], streams: &[u8], steps: &[u8]) -> bool
-    ensures { result ≡ is_demo word.now streams.now steps.now }
+// The streams and the steps of a demo.
+fn demo_numbers(word: &[u8], streams: &[u8], steps: &[u8]) -> Option<(u32, u32)>
+    ensures none { IfNone result (is_demo word.now streams.now steps.now ≡ false) }
+    ensures some { IfSome result (λ n. (is_demo word.now streams.now steps.now ≡ true)
+        × (n.0 ≡ value_of streams.now) × (n.1 ≡ value_of steps.now)) }
 {
     if !is_word(word, b"demo") {
-        return false;
+        return None;
     }
-    if decimal_between(streams, 1, 1_000).is_none() {
-        return false;
-    }
-    decimal_between(steps, 0, 1_000_000).is_some()
+    let streams = decimal_between(streams, 1, 1_000)?;
+    let steps = decimal_between(steps, 0, 1_000_000)?;
+    Some((streams, steps))
 }
 
 fn is_migrate(word: &[u8], old: &[u8], new: &[u8]) -> bool
@@ -145,32 +160,15 @@ fn is_migrate(word: &[u8], old: &[u8], new: &[u8]) -> bool
     !is_word(old, new)
 }
 
-// Whether two words are a row whose command isn't built.
-fn is_unbuilt_pair(word: &[u8], a: &[u8]) -> bool
-    ensures { result ≡ is_interpret word.now a.now || is_cexec word.now a.now }
-{
-    if is_interpret(word, a) {
-        return true;
-    }
-    is_cexec(word, a)
-}
-
-// Whether three words are a row whose command isn't built.
-fn is_unbuilt_triple(word: &[u8], a: &[u8], b: &[u8]) -> bool
-    ensures { result ≡ is_demo word.now a.now b.now || is_migrate word.now a.now b.now }
-{
-    if is_demo(word, a, b) {
-        return true;
-    }
-    is_migrate(word, a, b)
-}
-
 fn copilot_pair<'a>(word: &'a str, a: &'a str) -> Command<'a>
     ensures value { value_of_command result ≡ copilot_command (word.now ∷ a.now ∷ []) }
     ensures named { HasName (value_of_command result) }
 {
-    if is_unbuilt_pair(word.as_bytes(), a.as_bytes()) {
-        return Command::Unbuilt;
+    if is_interpret(word.as_bytes(), a.as_bytes()) {
+        return Command::Interpret { spec: a };
+    }
+    if is_cexec(word.as_bytes(), a.as_bytes()) {
+        return Command::Cexec { name: a };
     }
     Command::NoCommand
 }
@@ -182,8 +180,11 @@ fn copilot_triple<'a>(word: &'a str, a: &'a str, b: &'a str) -> Command<'a>
     if is_compile(word.as_bytes(), a.as_bytes(), b.as_bytes()) {
         return Command::Compile { spec: a, name: b };
     }
-    if is_unbuilt_triple(word.as_bytes(), a.as_bytes(), b.as_bytes()) {
-        return Command::Unbuilt;
+    if let Some((streams, steps)) = demo_numbers(word.as_bytes(), a.as_bytes(), b.as_bytes()) {
+        return Command::Demo { streams, steps };
+    }
+    if is_migrate(word.as_bytes(), a.as_bytes(), b.as_bytes()) {
+        return Command::Migrate { old: a, new: b };
     }
     Command::NoCommand
 }
@@ -264,16 +265,20 @@ fn is_fprime(word: &[u8], reqs: &[u8], name: &[u8]) -> bool
     )
 }
 
-fn is_application(word: &[u8], reqs: &[u8], name: &[u8]) -> bool
-    ensures { result ≡ is_application word.now reqs.now name.now }
+fn application<'a>(word: &'a str, reqs: &'a str, name: &'a str) -> Command<'a>
+    ensures value { value_of_command result ≡ application word.now reqs.now name.now }
+    ensures named { HasName (value_of_command result) }
 {
-    if is_cfs(word, reqs, name) {
-        return true;
+    if is_cfs(word.as_bytes(), reqs.as_bytes(), name.as_bytes()) {
+        return Command::Cfs { reqs, name };
     }
-    if is_ros(word, reqs, name) {
-        return true;
+    if is_ros(word.as_bytes(), reqs.as_bytes(), name.as_bytes()) {
+        return Command::Ros { reqs, name };
     }
-    is_fprime(word, reqs, name)
+    if is_fprime(word.as_bytes(), reqs.as_bytes(), name.as_bytes()) {
+        return Command::Fprime { reqs, name };
+    }
+    Command::NoCommand
 }
 
 fn ogma_triple<'a>(word: &'a str, a: &'a str, b: &'a str) -> Command<'a>
@@ -281,12 +286,9 @@ fn ogma_triple<'a>(word: &'a str, a: &'a str, b: &'a str) -> Command<'a>
     ensures named { HasName (value_of_command result) }
 {
     if is_standalone(word.as_bytes(), a.as_bytes(), b.as_bytes()) {
-        return Command::Unbuilt;
+        return Command::Standalone { reqs: a, spec: b };
     }
-    if is_application(word.as_bytes(), a.as_bytes(), b.as_bytes()) {
-        return Command::Unbuilt;
-    }
-    Command::NoCommand
+    application(word, a, b)
 }
 
 fn ogma_command<'a>(words: &'a [String]) -> Command<'a>

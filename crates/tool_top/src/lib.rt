@@ -1,7 +1,7 @@
 //! The tool as one call over a source, a file sink, an output and an error sink.
 //! In: the words of a command. Out: an outcome, with the files, the events and the line on the error sink that it tells.
-//! Defined by specs/Answer.antt (each outcome), specs/Analysis.antt (a text's stages and first fault), specs/Command.antt
-//! (the command table) and specs/Lines.antt; the main call is `run_tool`.
+//! Defined by specs/Runs.antt (what each command answers and leaves), specs/Analysis.antt (a text's stages and first
+//! fault), specs/Command.antt (the command table) and specs/Lines.antt; the main call is `run_tool`.
 #![tactic(auto)]
 
 mod analysis;

@@ -1,13 +1,17 @@
 // The top call.
-ghost use Rattle.std.specs.Prelude.{◌≡◌, ◌≤◌, ◌⊎◌, ◌++◌, ℕ, List, Bool, IfErr, IsErrOf, map, IfOk, OnOk, OnErr, IfSome, IsTrue, is_ok, string_bytes, Ok};
-ghost use Rattle.sm_io.specs.Causes.{Rose, HasCause};
-ghost use Rattle.sm_io.specs.Files.{SameBut, with_file};
+ghost use Rattle.std.specs.Prelude.{◌≡◌, ◌≤◌, ◌++◌, ◌∷◌, [], ℕ, List, Bool, IfErr, map, IfOk, OnOk, OnErr, IfSome, IsTrue, string_bytes, Ok};
+ghost use Rattle.sm_io.specs.Causes.{HasCause};
 ghost use Rattle.sm_io.specs.Written.{WritesText};
 ghost use Rattle.sm_io.specs.Words.{is_name};
 ghost use Rattle.c99_tree.specs.Spelling.{Spells};
 ghost use Rattle.c99_tree.specs.WellFormed.{IsWellFormed};
-ghost use Rattle.tool_top.specs.Command.{command_of, file_word};
-ghost use Rattle.tool_top.specs.Answer.{Compiles, Runs, MayStop, IsProgramOf, IsProgramFor, Completes, HasOneOutcome, text_of};
+ghost use Rattle.tool_top.specs.Command.{command_of, compile};
+ghost use Rattle.tool_top.specs.Outside.{outside};
+ghost use Rattle.tool_top.specs.Wanted.{text_file, contents};
+ghost use Rattle.tool_top.specs.Puts.{Put, with_puts, OnePutFailed};
+ghost use Rattle.tool_top.specs.Answer.{StopsAt, TellsShelfFaults, IsFileAnswer, Names};
+ghost use Rattle.tool_top.specs.Compile.{Compiles, IsProgramOf, IsProgramFor};
+ghost use Rattle.tool_top.specs.Runs.{Runs, IsIdle, LeavesInput, LeavesOut, Completes, HasOneOutcome};
 ghost use Rattle.tool_top.specs.Analysis.{Means, Stops, HasFirstFault};
 ghost use Rattle.tool_top.specs.Lines.{line_of};
 
@@ -62,10 +66,12 @@ fn file_name(alloc: Global, name: &str, end: &str) -> Result<String, AllocError>
 fn fetch_text<F: Shelf>(alloc: Global, spec: &str, shelf: &mut F) -> Result<Vec<u8>, Outcome>
     ensures same { F.files shelf.new ≡ F.files shelf.old }
     ensures later { F.faults shelf.old ≤ F.faults shelf.new }
-    ensures ok { IfOk result (λ text. IfSome (F.files shelf.old) (λ m. text_of spec.now m ≡ Ok text.items)) }
-    ensures err { IfErr result (λ outcome. IfSome (F.files shelf.old) (λ m. MayStop spec.now m outcome)) }
-    ensures read { IsErrOf result Outcome.ReadFault → Rose (F.faults shelf.old) (F.faults shelf.new) }
-    ensures write { IsErrOf result Outcome.WriteFault → ⊥ }
+    ensures ok { IfOk result (λ text. IfSome (F.files shelf.old) (λ m. contents m (text_file spec.now) ≡ Ok (text.items ∷ []))) }
+    ensures err { IfErr result (λ stop. IfSome (F.files shelf.old) (λ m. (name : List ℕ) → StopsAt (compile spec.now name) (contents m (text_file spec.now)) stop)) }
+    ensures possible { IfErr result IsFileAnswer }
+    ensures steady { OnOk result (F.faults shelf.new ≡ F.faults shelf.old) }
+    ensures faults { IfErr result (TellsShelfFaults (F.faults shelf.old) (F.faults shelf.new)) }
+    ensures write { IfErr result (λ stop. ¬ stop ≡ Outcome.WriteFault) }
 {
     match shelf.fetch(alloc, spec, TEXT_LIMIT) {
         Ok(text) => Ok(text),
@@ -83,10 +89,11 @@ fn put_both<F: Shelf>(
     texts: &Texts,
     shelf: &mut F,
 ) -> Result<(), Failed>
-    ensures done { OnOk result (F.files shelf.new
-        ≡ with_file (with_file (F.files shelf.old) header.now texts.now.header.taken) source.now texts.now.source.taken) }
-    ensures failed { OnErr result (SameBut header.now (F.files shelf.old) (F.files shelf.new)
-        ⊎ SameBut source.now (with_file (F.files shelf.old) header.now texts.now.header.taken) (F.files shelf.new)) }
+    ensures done { OnOk result (F.files shelf.new ≡ with_puts (F.files shelf.old)
+        (record { name = header.now; text = texts.now.header.taken } ∷ record { name = source.now; text = texts.now.source.taken } ∷ [])) }
+    ensures failed { OnErr result (OnePutFailed
+        (record { name = header.now; text = texts.now.header.taken } ∷ record { name = source.now; text = texts.now.source.taken } ∷ [])
+        (F.files shelf.old) (F.files shelf.new)) }
     ensures cause { HasCause (F.faults shelf.old) (F.faults shelf.new) result }
 {
     shelf.put(header, texts.header.taken())?;
@@ -131,9 +138,9 @@ fn compiled(alloc: Global, text: &[u8], name: &str) -> Result<Texts, Outcome>
 
 fn compile<F: Shelf>(alloc: Global, spec: &str, name: &str, shelf: &mut F) -> Outcome
     requires named { IsTrue (is_name name.now) }
-    ensures runs { IfSome (F.files shelf.old) (λ m. Compiles spec.now name.now m (F.files shelf.new) result) }
-    ensures read { result ≡ Outcome.ReadFault → Rose (F.faults shelf.old) (F.faults shelf.new) }
-    ensures write { result ≡ Outcome.WriteFault → Rose (F.faults shelf.old) (F.faults shelf.new) }
+    ensures answer { IfSome (F.files shelf.old) (λ m. Compiles spec.now name.now m (F.files shelf.new) result) }
+    ensures possible { IsFileAnswer result }
+    ensures faults { TellsShelfFaults (F.faults shelf.old) (F.faults shelf.new) result }
     ensures later { F.faults shelf.old ≤ F.faults shelf.new }
 {
     let text = match fetch_text(alloc, spec, shelf) {
@@ -167,21 +174,24 @@ pub fn run_tool<S: Source, K: Sink, E: Sink, F: Shelf>(
     err: &mut E,
     shelf: &mut F,
 ) -> Outcome
-    // Each answer comes only where the words and the file have it. After Done the two files stand, and after
-    // any other answer all names are as before, but for those of a put that failed.
-    ensures runs { IfSome (F.files shelf.old) (λ m. Runs (command_of tool (map string_bytes words.now)) m (F.files shelf.new) result) }
-    // A fault is told only where the shelf's count rose.
-    ensures read { result ≡ Outcome.ReadFault → Rose (F.faults shelf.old) (F.faults shelf.new) }
-    ensures write { result ≡ Outcome.WriteFault → Rose (F.faults shelf.old) (F.faults shelf.new) }
-    // A text without a fault is compiled, unless the count rose or memory ran out.
-    ensures completes { ¬ Rose (F.faults shelf.old) (F.faults shelf.new)
-        → Completes (command_of tool (map string_bytes words.now)) (F.files shelf.old) result }
-    // No command that is built reads the input or writes to the output.
-    ensures input { input.new ≡ input.old }
-    ensures out { out.new ≡ out.old }
+    // What each answer rests on, and what it leaves of the files, the input and the output.
+    ensures runs { Runs (command_of tool (map string_bytes words.now))
+        (outside (F.files shelf.old) (F.faults shelf.old) (S.left input.old) (S.faults input.old) (K.taken out.old) (K.faults out.old))
+        (outside (F.files shelf.new) (F.faults shelf.new) (S.left input.new) (S.faults input.new) (K.taken out.new) (K.faults out.new))
+        result }
+    // What is accepted is done, unless a call that the command may tell of failed or memory ran out.
+    ensures completes { Completes (command_of tool (map string_bytes words.now))
+        (outside (F.files shelf.old) (F.faults shelf.old) (S.left input.old) (S.faults input.old) (K.taken out.old) (K.faults out.old))
+        (outside (F.files shelf.new) (F.faults shelf.new) (S.left input.new) (S.faults input.new) (K.taken out.new) (K.faults out.new))
+        result }
+    // No call is made on the folder for words of no command and for a command that isn't built.
+    ensures idle { IsIdle (command_of tool (map string_bytes words.now)) → shelf.new ≡ shelf.old }
+    // The input is read and the output written by a session alone, and only once its files are read and accepted.
+    ensures input { LeavesInput (command_of tool (map string_bytes words.now)) result → input.new ≡ input.old }
+    ensures out { LeavesOut (command_of tool (map string_bytes words.now)) result → out.new ≡ out.old }
     // The outcome's line is on err, or a prefix of it where err failed.
-    ensures line { (whole : Bool) × WritesText (E.taken err.old) (E.taken err.new) (E.faults err.old) (E.faults err.new) whole
-        (line_of tool (file_word (command_of tool (map string_bytes words.now))) result) }
+    ensures line { (subject : List ℕ) × Names (command_of tool (map string_bytes words.now)) (F.files shelf.old) result subject
+        × (whole : Bool) × WritesText (E.taken err.old) (E.taken err.new) (E.faults err.old) (E.faults err.new) whole (line_of tool subject result) }
 {
     match command_of(tool, words) {
         Command::Compile { spec, name } => {
@@ -190,20 +200,20 @@ pub fn run_tool<S: Source, K: Sink, E: Sink, F: Shelf>(
             let _ = tell(tool, spec.as_bytes(), &outcome, err);
             outcome
         }
-        Command::Unbuilt => {
-            let outcome = nowhere(RefusalKind::NotYet);
+        Command::NoCommand => {
+            let outcome = Outcome::Usage;
             let _ = tell(tool, b"", &outcome, err);
             outcome
         }
-        Command::NoCommand => {
-            let outcome = Outcome::Usage;
+        _ => {
+            let outcome = nowhere(RefusalKind::NotYet);
             let _ = tell(tool, b"", &outcome, err);
             outcome
         }
     }
 }
 
-/// Two runs over the same words and files answer the same, unless one met a fault or found no memory.
+/// Two runs over the same words and content answer the same, unless one met a fault or found no memory.
 pub fn outcome_is_one()
     ensures { HasOneOutcome }
 {

@@ -1,5 +1,5 @@
 -- Names of which none is declared again are apart from each other.
-use Rattle.std.proofs.Common.{◌≡◌, ◌≢◌, ℕ, zero, suc, Bool, true, false, nat_eq, List, [], ◌∷◌, ◌++◌, refl, sym, ap, ◌∙◌}
+use Rattle.std.proofs.Common.{◌≡◌, ◌≢◌, ◌<◌, ℕ, zero, suc, Bool, true, false, nat_eq, List, [], ◌∷◌, ◌++◌, refl, sym, ap, subst, arith, ◌∙◌}
 use Rattle.std.specs.Prelude.{Option, Some, None, ◌||◌, ◌&&◌, not, if◌then◌else◌, bytes_eq, slice_get}
 use Rattle.std.specs.List.{list_any, AllByRecursion}
 use Rattle.std.specs.Cmp.Lexicographic.{nat_list_eq_equiv}
@@ -10,7 +10,7 @@ use Rattle.spec_text.specs.declared.surface.NameAt.{NameAt}
 use Rattle.spec_text.specs.declared.surface.Decl.{Decl}
 use Rattle.spec_text.specs.declared.surface.Decl.TheVariants as d
 use Rattle.spec_text.specs.declared.surface.Surface.{Surface}
-use Rattle.typing.specs.Names.{items, Declared, declared_as, names_of, names_from, forbids, is_redeclared, first_redeclared, name_fault}
+use Rattle.typing.specs.Names.{items, Declared, declared_as, names_of, names_from, forbids, is_redeclared, first_redeclared, declared_names, name_fault}
 use Rattle.typing.specs.Reading.{extern_names}
 use Rattle.typing.specs.Gathering.{AreDistinct}
 use Rattle.typing.proofs.Externs.{left_false, right_false}
@@ -43,6 +43,23 @@ are_free v before [] h = tt
 are_free v before (x ∷ xs) h =
     let p = if_none (is_redeclared v before x) x.at (first_redeclared v (before ++ x ∷ []) xs) h in
     (free_of v before x [] xs p.1, are_free v (before ++ x ∷ []) xs p.1)
+
+free_in : (v : ℕ) (y : Declared) (xs : List Declared) (j : ℕ) (b : Declared) → FreeOf v y xs → slice_get xs j ≡ Some b → forbids v b y ≡ false
+free_in v y [] j b h e = absurd (cc)
+free_in v y (x ∷ xs) zero b h e = let is : x ≡ b = cc in subst (λ z. forbids v z y ≡ false) is h.0
+free_in v y (x ∷ xs) (suc j) b h e = free_in v y xs j b h.1 e
+
+-- none of these is forbidden by one before it
+pub free_at : (v : ℕ) (xs : List Declared) (i j : ℕ) (a b : Declared) → AreFree v xs → i < j → slice_get xs i ≡ Some a → slice_get xs j ≡ Some b → forbids v b a ≡ false
+free_at v [] i j a b h p e f = absurd (cc)
+free_at v (x ∷ xs) zero zero a b h p e f = absurd (omega (arith, p))
+free_at v (x ∷ xs) zero (suc j) a b h p e f = let is : x ≡ a = cc in subst (λ z. forbids v b z ≡ false) is (free_in v x xs j b h.0 f)
+free_at v (x ∷ xs) (suc i) zero a b h p e f = absurd (omega (arith, p))
+free_at v (x ∷ xs) (suc i) (suc j) a b h p e f = free_at v xs i j a b h.1 (omega (arith, p)) e f
+
+pub names_free : (s : Surface) → name_fault s ≡ None → AreFree s.version (declared_names s)
+unfolding name_fault
+names_free s h = are_free s.version [] (declared_names s) h
 
 free_back : (v : ℕ) (xs ys : List Declared) → AreFree v (xs ++ ys) → AreFree v ys
 free_back v [] ys h = h

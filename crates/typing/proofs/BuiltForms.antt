@@ -10,8 +10,9 @@ use Rattle.spec_text.specs.declared.surface.Expr.TheFolds.{fold-roll-Expr}
 use Rattle.std.specs.Option.{option_map_or}
 use Rattle.spec_text.specs.Form.{expr_step, form_of_expr}
 use Rattle.spec_text.specs.FoldRows.{expr-Name}
-use Rattle.typing.specs.Unbuilt.{place_in, name_step, name_of_expr, unbuilt_guard, or_else}
-use Rattle.typing.specs.Reading.{guard_name, place_of}
+use Rattle.typing.specs.Unbuilt.{name_step, name_of_expr, unbuilt_guard, or_else}
+use Rattle.spec_text.specs.Places.{place_in, place_of_expr}
+use Rattle.typing.specs.Reading.{guard_name}
 
 pub name_of_expr-Name : (x : NameAt) → name_of_expr (e_.Name x) ≡ Some x.name
 unfolding name_of_expr
@@ -35,13 +36,13 @@ own_name o = option_map_or (λ name. name) o []
 pub guard_name-Name : (e : Expr) (x : NameAt) → e ≡ e_.Name x → guard_name e ≡ x.name
 guard_name-Name e x same = ap own_name (ap name_of_expr same ∙ name_of_expr-Name x)
 
-pub place_of-Name : (e : Expr) (x : NameAt) → e ≡ e_.Name x → place_of e ≡ x.at
+pub place_of-Name : (e : Expr) (x : NameAt) → e ≡ e_.Name x → place_of_expr e ≡ x.at
 unfolding form_of_expr
-place_of-Name e x same = ap place_of same ∙ ap place_in (expr-Name expr_step x)
+place_of-Name e x same = ap place_of_expr same ∙ ap place_in (expr-Name expr_step x)
 
 pub built_is_name : (e : Expr) → ((x : NameAt) → e ≢ e_.Name x) → unbuilt_guard e ≡ None → ⊥
 built_is_name e h built =
-    let some : unbuilt_guard e ≡ Some (place_of e) = ap (λ (o : Option (List ℕ)). option_map_or (λ name. None) o (Some (place_of e))) (name_of_expr-none e h) in
+    let some : unbuilt_guard e ≡ Some (place_of_expr e) = ap (λ (o : Option (List ℕ)). option_map_or (λ name. None) o (Some (place_of_expr e))) (name_of_expr-none e h) in
     cc
 
 -- of a trigger whose guard is built

@@ -15,7 +15,8 @@ use Rattle.spec_text.specs.declared.surface.Expr.{Expr}
 use Rattle.spec_text.specs.declared.surface.Decl.{Decl}
 use Rattle.spec_text.specs.declared.surface.Decl.TheVariants as d
 use Rattle.typing.specs.Unbuilt.{unbuilt_decl, first_unbuilt}
-use Rattle.typing.specs.Reading.{is_named, guard_name, place_of, guard_of, first_unknown, triggers_of}
+use Rattle.spec_text.specs.Places.{place_of_expr}
+use Rattle.typing.specs.Reading.{is_named, guard_name, guard_of, first_unknown, triggers_of}
 use Rattle.typing.specs.Gathering.{unknown_guard, AreExternNodes, KeepsNodes, IsRootOf, IsTriggerOf, AreTriggersOf, IsAdded}
 use Rattle.typing.proofs.BuiltForms.{or_else-None}
 
@@ -122,7 +123,7 @@ triggers_more externs ds i old now new x at n guard args h lt e is known add =
       triggers = subst (λ xs. AreTriggersOf new.nodes xs (h.read ++ tree ∷ [])) (sym add.last)
           (triggers_push new.nodes now.triggers h.read add.item tree (triggers_kept now.nodes new.nodes now.triggers h.read add.kept h.triggers) add.trigger);
       rest = append_assoc h.read (tree ∷ []) (triggers_of externs (drop (i + 1) ds)) ∙ ap (λ r. h.read ++ r) (ap (λ y. triggers_of externs (y ∷ drop (i + 1) ds)) (sym is) ∙ at_drop (triggers_of externs) ds i x lt e) ∙ h.rest;
-      unknown = sym (known_on (list_any (is_named (guard_name guard)) externs) (place_of guard) (first_unknown externs (drop (i + 1) ds)) known)
+      unknown = sym (known_on (list_any (is_named (guard_name guard)) externs) (place_of_expr guard) (first_unknown externs (drop (i + 1) ds)) known)
           ∙ ap (λ y. first_unknown externs (y ∷ drop (i + 1) ds)) (sym is) ∙ at_drop (first_unknown externs) ds i x lt e ∙ h.unknown;
       built = (or_else-None (unbuilt_decl x) (first_unbuilt (drop (i + 1) ds)) (at_drop first_unbuilt ds i x lt e ∙ h.built)).1;
       nodes = add.nodes h.nodes;

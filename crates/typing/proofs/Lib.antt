@@ -4,4 +4,3 @@ pub mod Externs
 pub mod Gathered
 pub mod Apart
 pub mod WholeSpec
-pub mod Extents

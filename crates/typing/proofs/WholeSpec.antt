@@ -3,7 +3,9 @@ use Rattle.std.proofs.Common.{◌≡◌, ℕ, zero, suc, ◌+◌, ◌<◌, ◌�
 use Rattle.std.specs.Prelude.{Option, Some, None, Err, ◌||◌, ◌&&◌, not, if◌then◌else◌, slice_get, IsTrue, All, ◌==◌}
 use Rattle.sm_io.specs.Words.{is_name}
 use Rattle.std.specs.List.{list_any, position_or_len, AllByRecursion}
+use Rattle.std.specs.Option.{option_map}
 use Rattle.std.proofs.lemmas.List.{append-nil}
+use Rattle.std.proofs.lemmas.Option.{slice_get-map}
 use Rattle.std.proofs.lemmas.List.Elements.{All-nil, All-cons}
 use Rattle.stream_types.specs.declared.scalar.Ty.{Ty}
 use Rattle.stream_types.specs.declared.types.TypeEntry.{TypeEntry}
@@ -19,7 +21,8 @@ use Rattle.stream_core.specs.declared.spec.ObserverItem.{ObserverItem}
 use Rattle.stream_core.specs.Value.{SpecValue}
 use Rattle.stream_core.specs.Ordered.{Ordered, all_parts}
 use Rattle.stream_core.specs.Term.{extern, build_at, tree_to, tree, tree_root, trees, TreeSpec, TreeTrigger, TreeObserver}
-use Rattle.stream_core.specs.WellTyped.{bool, ExternHasType, HasType, RootHasType, IsGoodTrigger, IsGoodStream, IsGoodDef, IsGoodLib, IsName, IsStreamName, HasNames, HasGoodNames}
+use Rattle.stream_core.specs.Signature.{signature_of}
+use Rattle.stream_core.specs.WellTyped.{bool, HasType, RootHasType, IsGoodTrigger, IsGoodStream, IsGoodDef, IsGoodLib, IsName, IsStreamName, HasNames, HasGoodNames}
 use Rattle.stream_core.specs.WellTyped.{declared_names as names_declared}
 use Rattle.spec_text.specs.declared.surface.Decl.{Decl}
 use Rattle.spec_text.specs.declared.surface.Decl.TheVariants as d
@@ -31,7 +34,8 @@ use Rattle.typing.specs.Names.{name_fault}
 use Rattle.typing.specs.declared.fault.TypeFault.{TypeFault}
 use Rattle.typing.specs.declared.fault.TypeFault.TheVariants as fault
 use Rattle.typing.specs.Unbuilt.{unbuilt, first_unbuilt}
-use Rattle.typing.specs.Reading.{extern_names, externs_of, bool_extern, is_named, guard_name, place_of, guard_of, first_unknown, unknown_name, triggers_of, spec_of}
+use Rattle.spec_text.specs.Places.{place_of_expr}
+use Rattle.typing.specs.Reading.{extern_names, externs_of, bool_extern, is_named, guard_name, guard_of, first_unknown, unknown_name, triggers_of, spec_of}
 use Rattle.typing.specs.Gathering.{AreExternNodes, IsTriggerOf, AreTriggersOf, IsGathered, IsUnknownAt}
 use Rattle.typing.specs.Typing.{redeclared, unknown, not_yet, fault_at, type_fault, IsTyped, Types}
 use Rattle.typing.proofs.Apart.{trigger_names, externs_distinct, triggers_apart, distinct_once, none_of_at}
@@ -155,10 +159,11 @@ extern_at (d.Extern at n t ∷ ds) zero h = (bool_extern n.name, refl, refl)
 extern_at (d.Extern at n t ∷ ds) (suc k) h = extern_at ds k (omega (arith, h))
 extern_at (x ∷ ds) k h = extern_at ds k h
 
-extern_has_type : (s : TreeSpec) (ds : List Decl) (k : ℕ) → s.externs ≡ externs_of ds → k < length (extern_names ds) → ExternHasType s k bool
+extern_has_type : (s : TreeSpec) (ds : List Decl) (k : ℕ) → s.externs ≡ externs_of ds → k < length (extern_names ds) → slice_get (signature_of s).externs k ≡ Some bool
 extern_has_type s ds k e h =
+    let ty_of : ExternItem → Ty = λ (x : ExternItem). x.ty in
     let x = extern_at ds k h in
-    record { item = x.0; is = ap (λ xs. slice_get xs k) e ∙ x.1; type_is = x.2 }
+    slice_get-map ty_of s.externs k ∙ ap (option_map ty_of) (ap (λ xs. slice_get xs k) e ∙ x.1) ∙ ap Some x.2
 
 abbrev StandsAlone : ExternItem → Type 0
 StandsAlone x = Stands [] x.ty
@@ -180,16 +185,16 @@ known_first : (b : Bool) (p : ℕ) (f : Option ℕ) → (if b then f else Some p
 known_first true p f h = (refl, h)
 known_first false p f h = absurd (cc)
 
-triggers_good : (s : TreeSpec) (all ds : List Decl) → s.externs ≡ externs_of all → first_unknown (extern_names all) ds ≡ None → All (IsGoodTrigger s) (triggers_of (extern_names all) ds)
-triggers_good s all [] e h = All-nil (IsGoodTrigger s)
+triggers_good : (s : TreeSpec) (all ds : List Decl) → s.externs ≡ externs_of all → first_unknown (extern_names all) ds ≡ None → All (IsGoodTrigger (signature_of s)) (triggers_of (extern_names all) ds)
+triggers_good s all [] e h = All-nil (IsGoodTrigger (signature_of s))
 triggers_good s all (d.Trigger at n guard args ∷ ds) e h =
     let externs = extern_names all in
-    let k = known_first (list_any (is_named (guard_name guard)) externs) (place_of guard) (first_unknown externs ds) h in
-    All-cons (IsGoodTrigger s) (record { name = n.name; guard = guard_of externs guard; args = [] }) (triggers_of externs ds)
+    let k = known_first (list_any (is_named (guard_name guard)) externs) (place_of_expr guard) (first_unknown externs ds) h in
+    All-cons (IsGoodTrigger (signature_of s)) (record { name = n.name; guard = guard_of externs guard; args = [] }) (triggers_of externs ds)
     (record {
       guard = extern_has_type s all (position_or_len (is_named (guard_name guard)) externs) e (within_front (is_named (guard_name guard)) externs k.0);
       truth = refl;
-      args = All-nil (RootHasType s);
+      args = All-nil (RootHasType (signature_of s));
       few = omega arith;
     })
     (triggers_good s all ds e k.1)
@@ -218,11 +223,11 @@ node_there (x ∷ xs) (suc i) h = node_there xs i (omega (arith, h))
 ordered_alone : (count : ℕ) (nodes : List Node) → AreExternNodes count nodes → Ordered nodes []
 ordered_alone count nodes h = record { below = λ i n e. let x = h i n e in subst (λ m. AllByRecursion (λ j. j < i) (all_parts [] m)) (sym x.2) tt }
 
-nodes_typed : (s : TreeSpec) (ds : List Decl) (nodes : List Node) → s.externs ≡ externs_of ds → AreExternNodes (length (extern_names ds)) nodes → (i : ℕ) → i < length nodes → (t : Ty) × HasType s (tree nodes [] i) t
+nodes_typed : (s : TreeSpec) (ds : List Decl) (nodes : List Node) → s.externs ≡ externs_of ds → AreExternNodes (length (extern_names ds)) nodes → (i : ℕ) → i < length nodes → (t : Ty) × HasType (signature_of s) (tree nodes [] i) t
 nodes_typed s ds nodes e h i lt =
     let n = node_there nodes i lt in
     let x = h i n.0 n.1 in
-    (bool, subst (λ a. HasType s a bool) (sym (tree_at nodes i x.0 (n.1 ∙ ap Some x.2))) (extern_has_type s ds x.0 e x.1))
+    (bool, subst (λ a. HasType (signature_of s) a bool) (sym (tree_at nodes i x.0 (n.1 ∙ ap Some x.2))) (extern_has_type s ds x.0 e x.1))
 
 names_are : (s : Surface) (nodes : List Node) (triggers : List TriggerItem) → names_declared (whole s nodes triggers) ≡ extern_names s.decls
 names_are s nodes triggers = append-nil _ ∙ append-nil _ ∙ append-nil _ ∙ item_names s.decls
@@ -271,11 +276,11 @@ gathered_typed s nodes triggers kept once built known are placed =
         ordered = ordered_alone (length (extern_names ds)) nodes placed;
         nodes = nodes_typed (trees x) ds nodes refl placed;
         externs = externs_stand ds;
-        streams = All-nil (IsGoodStream (trees x));
-        defs = All-nil (IsGoodDef (trees x));
-        triggers = subst (All (IsGoodTrigger (trees x))) (sym same) (triggers_good (trees x) ds ds refl known);
-        observers = All-nil (λ (o : TreeObserver). RootHasType (trees x) o.root);
-        libs = All-nil (IsGoodLib (trees x));
+        streams = All-nil (IsGoodStream (signature_of (trees x)));
+        defs = All-nil (IsGoodDef (signature_of (trees x)));
+        triggers = subst (All (IsGoodTrigger (signature_of (trees x)))) (sym same) (triggers_good (trees x) ds ds refl known);
+        observers = All-nil (λ (o : TreeObserver). RootHasType (signature_of (trees x)) o.root);
+        libs = All-nil (IsGoodLib (signature_of (trees x)));
         names = good_names s nodes triggers kept once are;
       };
       few = omega arith;

@@ -11,7 +11,8 @@ use Rattle.spec_text.specs.declared.surface.Expr.{Expr}
 use Rattle.spec_text.specs.declared.surface.Decl.{Decl}
 use Rattle.typing.specs.declared.fault.TypeFault.{TypeFault}
 use Rattle.typing.specs.declared.fault.TypeFault.TheVariants.{Unknown, Memory}
-use Rattle.typing.specs.Reading.{is_named, guard_name, place_of, guard_of, first_unknown, triggers_of}
+use Rattle.spec_text.specs.Places.{place_of_expr}
+use Rattle.typing.specs.Reading.{is_named, guard_name, guard_of, first_unknown, triggers_of}
 
 -- no name is equal to a later one
 abbrev pub AreDistinct : List (List ℕ) → Type 0
@@ -20,7 +21,7 @@ AreDistinct (x ∷ xs) = (list_any (bytes_eq x) xs ≡ false) × AreDistinct xs
 
 -- the place of a guard that is no extern
 abbrev pub unknown_guard : List (List ℕ) → Expr → Option ℕ
-unknown_guard externs guard = if list_any (is_named (guard_name guard)) externs then None else Some (place_of guard)
+unknown_guard externs guard = if list_any (is_named (guard_name guard)) externs then None else Some (place_of_expr guard)
 
 -- An error is this unknown name, or want of memory.
 abbrev pub IsUnknownAt : Option ℕ → TypeFault → Type 0

@@ -11,8 +11,8 @@ use Rattle.spec_text.specs.declared.surface.Expr.{Expr}
 use Rattle.spec_text.specs.declared.surface.Decl.{Decl}
 use Rattle.spec_text.specs.declared.surface.Decl.TheVariants as d
 use Rattle.spec_text.specs.declared.surface.Surface.{Surface}
-use Rattle.spec_text.specs.Form.{form_of_expr}
-use Rattle.typing.specs.Unbuilt.{name_of_expr, place_in}
+use Rattle.spec_text.specs.Places.{place_of_expr}
+use Rattle.typing.specs.Unbuilt.{name_of_expr}
 
 abbrev pub bool : Ty
 bool = ty.Scalar scalar.Bool
@@ -35,14 +35,11 @@ is_named name other = bytes_eq name other
 abbrev pub guard_name : Expr → List ℕ
 guard_name e = option_map_or (λ name. name) (name_of_expr e) []
 
-abbrev pub place_of : Expr → ℕ
-place_of e = place_in (form_of_expr e)
-
 -- the place of the first guard that is no extern, wherever that stands in the text
 abbrev pub first_unknown : List (List ℕ) → List Decl → Option ℕ
 first_unknown externs [] = None
 first_unknown externs (d.Trigger at x guard args ∷ ds) =
-    if list_any (is_named (guard_name guard)) externs then first_unknown externs ds else Some (place_of guard)
+    if list_any (is_named (guard_name guard)) externs then first_unknown externs ds else Some (place_of_expr guard)
 first_unknown externs (_ ∷ ds) = first_unknown externs ds
 
 unfoldable pub unknown_name : Surface → Option ℕ
@@ -56,7 +53,7 @@ externs_of (d.Extern at x t ∷ ds) = bool_extern x.name ∷ externs_of ds
 externs_of (_ ∷ ds) = externs_of ds
 
 abbrev pub guard_of : List (List ℕ) → Expr → TreeRoot
-guard_of externs e = record { expr = extern (position_or_len (is_named (guard_name e)) externs); ty = bool; at = place_of e }
+guard_of externs e = record { expr = extern (position_or_len (is_named (guard_name e)) externs); ty = bool; at = place_of_expr e }
 
 abbrev pub triggers_of : List (List ℕ) → List Decl → List TreeTrigger
 triggers_of externs [] = []

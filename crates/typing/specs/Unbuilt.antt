@@ -11,12 +11,7 @@ use Rattle.spec_text.specs.declared.surface.Expr.TheFolds.{fold-Expr}
 use Rattle.spec_text.specs.declared.surface.Decl.{Decl}
 use Rattle.spec_text.specs.declared.surface.Decl.TheVariants as d
 use Rattle.spec_text.specs.declared.surface.Surface.{Surface}
-use Rattle.spec_text.specs.Form.{Form, word, form, form_of_expr}
-
--- the place of a form; each expression keeps its own
-abbrev pub place_in : Form → ℕ
-place_in (word at bytes) = option_map_or (λ a. a) at 0
-place_in (form at items) = option_map_or (λ a. a) at 0
+use Rattle.spec_text.specs.Places.{place_of_expr}
 
 -- the name that an expression is, if it is one
 abbrev pub name_step : Expr-F (Option (List ℕ)) → Option (List ℕ)
@@ -37,11 +32,11 @@ unfoldable pub unbuilt_type : TypeForm → Option ℕ
 unbuilt_type = fold-TypeForm (Option ℕ) unbuilt_type_step
 
 abbrev pub unbuilt_guard : Expr → Option ℕ
-unbuilt_guard e = option_map_or (λ name. None) (name_of_expr e) (Some (place_in (form_of_expr e)))
+unbuilt_guard e = option_map_or (λ name. None) (name_of_expr e) (Some (place_of_expr e))
 
 abbrev pub unbuilt_args : List Expr → Option ℕ
 unbuilt_args [] = None
-unbuilt_args (e ∷ es) = Some (place_in (form_of_expr e))
+unbuilt_args (e ∷ es) = Some (place_of_expr e)
 
 abbrev pub or_else : Option ℕ → Option ℕ → Option ℕ
 or_else (Some at) other = Some at

@@ -4,12 +4,14 @@
 #![tactic(auto)]
 
 mod fault;
+mod laws;
 mod names;
 mod reading;
 mod typed;
 mod unbuilt;
 
 pub use fault::TypeFault;
+pub use laws::names_are_told_apart;
 pub use typed::type_all;
 
 #[cfg(test)]

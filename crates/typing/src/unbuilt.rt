@@ -1,7 +1,7 @@
 // The first node of a text that isn't built.
 ghost use Rattle.std.specs.Prelude.{◌≡◌};
 ghost use Rattle.typing.specs.Unbuilt.{unbuilt_type, unbuilt_guard, unbuilt_decl, first_unbuilt};
-ghost use Rattle.typing.specs.Reading.{place_of};
+ghost use Rattle.spec_text.specs.Places.{place_of_expr};
 
 use spec_text::{Decl, Expr, TypeForm};
 use stream_types::Scalar;
@@ -9,7 +9,7 @@ use stream_types::Scalar;
 /// The place of an expression.
 #[tactic(auto, using(spec_text::specs::FoldRows::expr_rows), unfolding(spec_text::specs::Form::form_of_expr))]
 pub fn place_of(expr: &Expr) -> u64
-    ensures { result ≡ place_of expr.now }
+    ensures { result ≡ place_of_expr expr.now }
 {
     match expr {
         Expr::Name(x) => x.at,

@@ -46,10 +46,10 @@ weigh_at-returns-in-None t c =
     none ∙ ap (λ o. min (heavy_at s o) c.args.most) (sym e)
 
 pub weigh_agreed-returns : goal.weigh_agreed-returns
-weigh_agreed-returns t c = c.min.ensures ∙ agreed_capped c.args.spec.now c.args.votes.now c.args.most c.weigh_all-all.result c.requires.one c.requires.some c.weigh_all-all.ensures
+weigh_agreed-returns t c = c.min.ensures ∙ ap (λ x. min x c.args.most) c.agreed_weight.ensures ∙ agreed_capped c.args.spec.now c.args.votes.now c.args.most c.weigh_all-all.result c.requires.one c.requires.some c.weigh_all-all.ensures
 
 pub weigh_majority-returns : goal.weigh_majority-returns
-weigh_majority-returns t c = c.min.ensures ∙ majority_capped c.args.spec.now c.args.votes.now c.args.most c.weigh_at-first.result c.weigh_all-others.result c.requires.one c.weigh_at-first.ensures c.weigh_all-others.ensures c.requires.some
+weigh_majority-returns t c = c.min.ensures ∙ ap (λ x. min x c.args.most) c.majority_weight.ensures ∙ majority_capped c.args.spec.now c.args.votes.now c.args.most c.weigh_at-first.result c.weigh_all-others.result c.requires.one c.weigh_at-first.ensures c.weigh_all-others.ensures c.requires.some
 
 -- def d is there
 pub weigh_node-weigh-requires : goal.weigh_node-weigh-requires

@@ -1,0 +1,67 @@
+-- What a run answers, and what it leaves of the outside: one relation a command.
+use Rattle.std.specs.Prelude.{◌≡◌, List, Some, IfSome, Ok, ℕ}
+use Rattle.sm_io.specs.Files.{Files}
+use Rattle.tool_top.specs.Analysis.{nowhere}
+use Rattle.tool_top.specs.Answer.{IsRefusedFor, IsQuiet, IsFinished, IsSettled, IsEarly}
+use Rattle.tool_top.specs.Command.{CommandValue, compile, interpret, cexec, demo, no_command}
+use Rattle.tool_top.specs.Compile.{RunsCompile}
+use Rattle.tool_top.specs.Outside.{Outside}
+use Rattle.tool_top.specs.Wanted.{wanted, contents}
+use Rattle.tool_top.specs.declared.outcome.Outcome.{Outcome}
+use Rattle.tool_top.specs.declared.outcome.Outcome.TheVariants.{Refused, Usage}
+use Rattle.tool_top.specs.declared.outcome.Refusal.{Refusal}
+use Rattle.tool_top.specs.declared.outcome.RefusalKind.TheVariants as kind
+
+-- A run of a command over the outside before it leaves the outside after it, and answers this. Words of no command are
+-- told the usage, and a command that isn't built is refused; both leave everything as it was.
+abbrev pub Runs : CommandValue → Outside → Outside → Outcome → Type 0
+Runs (compile spec name) before after outcome = RunsCompile spec name before after outcome
+Runs no_command before after outcome = (outcome ≡ Usage) × (after ≡ before)
+Runs _ before after outcome = (outcome ≡ Refused (nowhere kind.NotYet)) × (after ≡ before)
+
+-- ---- what is left alone
+
+-- a command that reads nothing: no folder, no input
+abbrev pub IsIdle : CommandValue → Type 0
+IsIdle (compile spec name) = ⊥
+IsIdle _ = Unit {0}
+
+-- a run that takes no byte from the input, and one that writes none to the output
+abbrev pub LeavesInput : CommandValue → Outcome → Type 0
+LeavesInput (interpret spec) outcome = IsEarly outcome
+LeavesInput (cexec name) outcome = IsEarly outcome
+LeavesInput _ outcome = Unit {0}
+
+abbrev pub LeavesOut : CommandValue → Outcome → Type 0
+LeavesOut (interpret spec) outcome = IsEarly outcome
+LeavesOut (cexec name) outcome = IsEarly outcome
+LeavesOut (demo streams steps) outcome = IsEarly outcome
+LeavesOut _ outcome = Unit {0}
+
+-- ---- completeness
+
+-- The files that a command reads are there and within their limits, and nothing in them is refused.
+pub record IsAccepted (command : CommandValue) (files : Files) : Type 0 where
+  pub texts : List (List ℕ)
+  pub texts_are : contents files (wanted command) ≡ Ok texts
+  pub fine : (refusal : Refusal) → ¬ IsRefusedFor command texts refusal
+
+-- What is accepted is done where none of the command's failures came, or memory ran out.
+abbrev pub Completes : CommandValue → Outside → Outside → Outcome → Type 0
+Completes (compile spec name) before after outcome =
+    IfSome before.files (λ files. IsQuiet (compile spec name) before after → IsAccepted (compile spec name) files → IsFinished outcome)
+Completes _ before after outcome = Unit {0}
+
+-- ---- one outcome
+
+-- The files and what is left of the input are told.
+pub record IsTold (before : Outside) (files : Files) (left : List ℕ) : Type 0 where
+  pub files_are : before.files ≡ Some files
+  pub left_is : before.left ≡ Some left
+
+-- The outcome is a function of the words and all content, but for faults of the outside and want of memory.
+abbrev pub HasOneOutcome : Type 0
+HasOneOutcome =
+    (command : CommandValue) (files : Files) (left : List ℕ) (before before' after after' : Outside) (a b : Outcome)
+    → IsTold before files left → IsTold before' files left → IsSettled a → IsSettled b
+    → Runs command before after a → Runs command before' after' b → a ≡ b
