@@ -1,0 +1,20 @@
+//! Library forms as streams.
+//! In: a specification with forms of the library. Out (to come): one without them, over buffers. What stands: the laws
+//! that each form over its buffers has the value of its sentence over all earlier steps.
+//! specs/Buffers.antt defines what the buffers hold; the lowering itself is stream_core's specs/Lower.antt.
+#![tactic(auto)]
+
+mod bounded_forms;
+mod buffer_lists;
+mod simple_forms;
+mod sizes;
+mod window_forms;
+
+pub use bounded_forms::{historically_in_is_kept, once_in_is_kept, since_in_is_kept};
+pub use buffer_lists::{entries_stay_as_samples_grow, forms_have_their_buffers};
+pub use simple_forms::{
+    clock_is_kept, historically_is_kept, once_is_kept, since_is_kept, weakly_yesterday_is_kept,
+    yesterday_is_kept,
+};
+pub use sizes::{abs_is_kept, sign_is_kept};
+pub use window_forms::window_sum_is_kept;

@@ -1,0 +1,11 @@
+// The forms over a window of the last samples.
+ghost use Rattle.std.specs.Prelude.{ℕ};
+ghost use Rattle.stream_types.specs.declared.scalar.Scalar.{Scalar};
+ghost use Rattle.stream_core.specs.declared.node.LibForm.TheVariants as form;
+ghost use Rattle.stream_core.specs.WellTyped.{IsGoodForm};
+ghost use Rattle.stream_lib.specs.Buffers.{FormIsKept};
+
+/// `window_sum n e`: its buffer is the last `n - 1` samples of `e`, and zeros before the first.
+pub fn window_sum_is_kept()
+    ensures { (n : ℕ) (s : Scalar) → IsGoodForm (form.WindowSum n s) → FormIsKept (form.WindowSum n s) }
+{}
