@@ -17,3 +17,8 @@ mod SinceChain
 mod SinceWithin
 mod WindowParts
 mod WindowSums
+mod WindowBests
+mod WindowChoices
+mod WindowEnds
+mod WindowExtremes
+pub mod VoteWords

@@ -8,6 +8,7 @@ mod bounded_forms;
 mod buffer_lists;
 mod simple_forms;
 mod sizes;
+mod votes;
 mod window_forms;
 
 pub use bounded_forms::{historically_in_is_kept, once_in_is_kept, since_in_is_kept};
@@ -17,4 +18,5 @@ pub use simple_forms::{
     yesterday_is_kept,
 };
 pub use sizes::{abs_is_kept, sign_is_kept};
-pub use window_forms::window_sum_is_kept;
+pub use votes::{agreed_is_kept, majority_is_kept};
+pub use window_forms::{window_max_is_kept, window_min_is_kept, window_sum_is_kept};
