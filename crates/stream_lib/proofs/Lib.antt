@@ -22,3 +22,17 @@ mod WindowChoices
 mod WindowEnds
 mod WindowExtremes
 pub mod VoteWords
+pub mod OutOfForms
+pub mod OutOfSpecs
+pub mod PlainForms
+pub mod LoweredTypes
+pub mod BufferStreams
+pub mod LoweredParts
+pub mod LoweredValues
+pub mod LoweredTables
+pub mod LoweredSteps
+pub mod LoweredMeaning
+pub mod KeptDeclarations
+pub mod KeptForms
+pub mod LoweredCalls
+pub mod TreesWritten
