@@ -330,7 +330,7 @@ list_finds sub (more a es) x s r h =
       append_assoc (text a) (parted (codes ", ") es) x,
       first,
       r.0.finds rest (parted_stops es x e.stopped),
-      others_find sub es x (suc (length (text a ++ rest))) r.1 e (omega (arith, length-append (text a) rest, length-append (parted (codes ", ") es) x, count_parted es)),
+      others_find sub es x (length (text a ++ rest)) r.1 e (omega (arith, ap length o.is, length-append (text a) rest, length-append (parted (codes ", ") es) x, count_parted es)),
     ) refl
 
 reads_arr : (sub : Sub) (x : List ℕ) (n : ℕ) (all : Exprs) → is_element x ≡ true → is_u32 n ≡ true → are_spelled all ≡ true → AllRead sub all → Reads (level sub) (arr x n all)

@@ -1,28 +1,31 @@
 -- Fixed bytes, words, numbers, names and lines are read as they were written.
-use Rattle.std.proofs.Common.{◌≡◌, ℕ, zero, suc, ◌^◌, ◌<◌, ◌≤◌, Bool, true, false, not, ◌&&◌, ◌||◌, leb, List, [], ◌∷◌, ◌++◌, length, get_or, Option, Some, None, inl, inr, refl, sym, ap, ◌∙◌, append_assoc, length-append, codes, arith}
+use Rattle.std.proofs.Common.{◌-◌, ◌≡◌, ℕ, zero, suc, ◌^◌, ◌<◌, ◌≤◌, Bool, true, false, not, ◌&&◌, ◌||◌, leb, List, [], ◌∷◌, ◌++◌, length, get_or, Option, Some, None, inl, inr, refl, sym, ap, ◌∙◌, append_assoc, length-append, codes, arith}
 use Rattle.std.specs.Fmt.{decimal}
 use Rattle.std.specs.List.{list_all, list_any, flat_map}
 use Rattle.std.specs.Str.Parse.{digits_value}
+use Rattle.std.specs.Char.{digit_value}
 use Rattle.std.specs.Int.{IsInRange}
 use Rattle.std.proofs.lemmas.Fmt.{decimal_nonempty, first_decimal, decimal_digit, digits_decimal, digits_value-decimal}
 use Rattle.std.proofs.lemmas.Str.Parse.{IsDigitsTest, IsNumeralModel, numerals_by_value}
 use Rattle.std.proofs.lemmas.Slice.Eq.{bytes_eq-Decides}
-use Rattle.std.proofs.lemmas.Bool.{cases_eq, and_from, ne_eqb, cases_lt, and_parts, or_cases, not-true, true≢false, cases_Bool, eq-eqb, leb-true, le-leb}
+use Rattle.std.proofs.lemmas.Bool.{cases_eq, and_from, ne_eqb, cases_lt, and_parts, or_cases, not-true, true≢false, cases_Bool, eq-eqb, leb-true, le-leb, le-ltb, lt-ltb}
 use Rattle.sm_io.specs.Names.{is_name_byte}
 use Rattle.sm_io.specs.Words.{is_name, is_word, is_among, has_front, has_end, reserved, limit_fronts, limit_ends}
 use Rattle.c99_tree.specs.declared.types.CScalar.{CScalar}
 use Rattle.c99_tree.specs.declared.types.CScalar.TheVariants as t
 use Rattle.c99_tree.specs.Words.{is_digit, is_same, is_index, is_ring_name, is_element, word_of, scalars}
 use Rattle.c99_read.specs.Front.{behind, word, after_word, number, after_number, is_number, number_of, number_at, name_at, ring_name_at, last_split, array_of, many, all_at}
-use Rattle.c99_tree.proofs.Shaped.{same-eq}
 
 -- ---- tests
 
 pub same_self : (w : List ℕ) → is_same w w ≡ true
 same_self w = (bytes_eq-Decides w w).1 refl
 
+pub same_is : (a b : List ℕ) → is_same a b ≡ true → a ≡ b
+same_is a b h = (bytes_eq-Decides a b).0 h
+
 pub not_same : (a b : List ℕ) → (a ≡ b → ⊥) → is_same a b ≡ false
-not_same a b h = elim (cases_Bool (is_same a b)) [ inl y ↦ absurd (h (same-eq a b y)) | inr n ↦ n ]
+not_same a b h = elim (cases_Bool (is_same a b)) [ inl y ↦ absurd (h (same_is a b y)) | inr n ↦ n ]
 
 -- ---- fixed bytes
 
@@ -87,9 +90,9 @@ index_word (b ∷ bs) h = digits_word (b ∷ bs) (and_parts (leb 49 b) (list_all
 pub ring_word : (r : List ℕ) → is_ring_name r ≡ true → all_word r ≡ true
 ring_word r h = elim (or_cases (is_name r) (is_index r) h) [ inl a ↦ name_word r a | inr b ↦ index_word r b ]
 
-any_word : (x : List ℕ) (all : List CScalar) → list_any (λ s. is_same (word_of s) x) all ≡ true → (s : CScalar) × (x ≡ word_of s)
+pub any_word : (x : List ℕ) (all : List CScalar) → list_any (λ s. is_same (word_of s) x) all ≡ true → (s : CScalar) × (x ≡ word_of s)
 any_word x [] h = absurd (cc h)
-any_word x (s ∷ all) h = elim (or_cases (is_same (word_of s) x) _ h) [ inl a ↦ (s, sym (same-eq (word_of s) x a)) | inr b ↦ any_word x all b ]
+any_word x (s ∷ all) h = elim (or_cases (is_same (word_of s) x) _ h) [ inl a ↦ (s, sym (same_is (word_of s) x a)) | inr b ↦ any_word x all b ]
 
 scalar_word : (s : CScalar) → all_word (word_of s) ≡ true
 scalar_word t.Bool = refl
@@ -250,10 +253,19 @@ count_lines f ok h [] g = omega arith
 count_lines f ok h (a ∷ xs) g = let p = and_parts (ok a) (list_all ok xs) g in omega (arith, length-append (f a) (flat_map f xs), count_lines f ok h xs p.1, h a p.0)
 
 pub all_find : {A : Type 0} {test after : List ℕ → Bool} {r : List ℕ → Option (A × List ℕ)} {f : A → List ℕ} {ok : A → Bool} →
-    ReadsLines test after r f ok → (xs : List A) (x : List ℕ) → test x ≡ false → after x ≡ true → list_all ok xs ≡ true → all_at test r (flat_map f xs ++ x) ≡ Some (xs, x)
-all_find {f = f} {ok = ok} l xs x t g h =
-    many_finds l xs x (suc (length (flat_map f xs ++ x))) t g h (omega (arith, length-append (flat_map f xs) x, count_lines f ok l.long xs h))
+    ReadsLines test after r f ok → (xs : List A) (x : List ℕ) → 0 < length x → test x ≡ false → after x ≡ true → list_all ok xs ≡ true → all_at test r (flat_map f xs ++ x) ≡ Some (xs, x)
+all_find {f = f} {ok = ok} l xs x k t g h =
+    many_finds l xs x (length (flat_map f xs ++ x)) t g h (omega (arith, length-append (flat_map f xs) x, count_lines f ok l.long xs h))
 
 -- where nothing is asked of what follows
 abbrev pub anything : List ℕ → Bool
 anything x = true
+
+-- each of some digits is one
+pub digit_among : (ds : List ℕ) (i : ℕ) → list_all is_digit ds ≡ true → i < length ds → is_digit (get_or ds i 0) ≡ true
+digit_among [] i h k = absurd (omega arith)
+digit_among (d ∷ ds) zero h k = (and_parts (is_digit d) (list_all is_digit ds) h).0
+digit_among (d ∷ ds) (suc i) h k = digit_among ds i (and_parts (is_digit d) (list_all is_digit ds) h).1 (omega arith)
+
+pub digit_worth : (c : ℕ) → is_digit c ≡ true → digit_value c ≡ c - 48
+digit_worth c h = let r = in_range c h in rw (le-ltb c 48 (omega (arith, r)), lt-ltb c 58 (omega (arith, r))) refl

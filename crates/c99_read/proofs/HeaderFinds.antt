@@ -10,7 +10,8 @@ use Rattle.c99_tree.specs.declared.unit.Unit.{Unit as CUnit}
 use Rattle.c99_tree.specs.Spelling.{type_line, extern_line, handler_line, header_text, HasSpelling, is_u32}
 use Rattle.c99_read.specs.Front.{behind, word, begins}
 use Rattle.c99_read.specs.LineAt.{is_handler}
-use Rattle.c99_read.specs.UnitAt.{Header, a_header, before_end, guard_name_at, top_at, totals_at, header_of}
+use Rattle.c99_read.specs.declared.heading.Header.{Header}
+use Rattle.c99_read.specs.UnitAt.{a_header, before_end, guard_name_at, top_at, totals_at, header_of}
 use Rattle.c99_read.proofs.FrontFinds.{not_same, behind_front, all_word-append, word_front, after_word_front, name_word, number_finds, all_find}
 use Rattle.c99_read.proofs.LinesFind.{defs, externs, handlers}
 
@@ -18,7 +19,7 @@ use Rattle.c99_read.proofs.LinesFind.{defs, externs, handlers}
 abbrev pub header_in : CUnit → Header
 header_in u = a_header u.name (u.storage, u.need) u.types u.externs u.handlers
 
-before_end-is : (x : List ℕ) → before_end (x ++ codes "_H") ≡ Some x
+pub before_end-is : (x : List ℕ) → before_end (x ++ codes "_H") ≡ Some x
 unfolding before_end
 before_end-is [] = refl
 before_end-is (b ∷ x) =
@@ -56,7 +57,7 @@ no_handler : is_handler last ≡ false
 unfolding behind word
 no_handler = refl
 
-header_pieces : (a n h l b i j c d e f g t x p q r : List ℕ) →
+pub header_pieces : (a n h l b i j c d e f g t x p q r : List ℕ) →
     a ++ n ++ h ++ l ++ (b ++ n ++ h ++ l) ++ i ++ j ++ (c ++ d ++ e ++ f ++ g ++ l) ++ t ++ x ++ p ++ q ++ r
     ≡ a ++ (n ++ h ++ (((l ++ b) ++ n ++ (h ++ l ++ i ++ j)) ++ (c ++ (d ++ (e ++ (f ++ ((g ++ l) ++ (t ++ (x ++ (p ++ (q ++ r)))))))))))
 header_pieces a n h l b i j c d e f g t x p q r = simp append_assoc
@@ -69,9 +70,11 @@ header_finds u s =
     let hs : List ℕ = flat_map handler_line u.handlers ++ end in
     let vs : List ℕ = flat_map extern_line u.externs ++ hs in
     let ds : List ℕ = flat_map type_line u.types ++ vs in
+    let long_hs = length-append (flat_map handler_line u.handlers) end in
+    let long_vs = length-append (flat_map extern_line u.externs) hs in
     let tail : List ℕ = codes "enum { cp_storage = " ++ (decimal u.storage ++ (codes ", cp_need = " ++ (decimal u.need ++ (codes " };\n" ++ ds)))) in
     let regroup : header_text u ≡ codes "#ifndef CP_" ++ (u.name ++ codes "_H" ++ ((codes "\n#define CP_" ++ u.name ++ codes "_H\n#include <stdint.h>\n#include <stdbool.h>\n") ++ tail)) =
     header_pieces (codes "#ifndef CP_") u.name (codes "_H") (codes "\n") (codes "#define CP_") (codes "#include <stdint.h>\n") (codes "#include <stdbool.h>\n") (codes "enum { cp_storage = ") (decimal u.storage) (codes ", cp_need = ") (decimal u.need) (codes " };")
     (flat_map type_line u.types) (flat_map extern_line u.externs) (flat_map handler_line u.handlers) (codes "void step(void);\n") (codes "#endif\n") in
     ap header_of regroup
-    ∙ rw (top_finds u.name tail s.name, totals_find u.storage u.need ds n.0 n.1, all_find defs u.types vs (no_def u.externs u.handlers) refl s.types, all_find externs u.externs hs (no_extern u.handlers) refl s.externs, all_find handlers u.handlers end no_handler refl s.handlers, behind_front end []) refl
+    ∙ rw (top_finds u.name tail s.name, totals_find u.storage u.need ds n.0 n.1, all_find defs u.types vs (omega (arith, long_vs)) (no_def u.externs u.handlers) refl s.types, all_find externs u.externs hs (omega (arith, long_hs)) (no_extern u.handlers) refl s.externs, all_find handlers u.handlers end (omega arith) no_handler refl s.handlers, behind_front end []) refl

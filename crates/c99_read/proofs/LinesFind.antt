@@ -48,7 +48,7 @@ fields = record {
   long = λ v h. omega arith;
 }
 
-array_pieces : (a b x c n d t e f g y : List ℕ) → (a ++ b) ++ x ++ c ++ n ++ d ++ t ++ e ++ n ++ f ++ g ++ y ≡ a ++ ((b ++ x ++ c ++ n) ++ ((d ++ t ++ e ++ n ++ (f ++ g)) ++ y))
+pub array_pieces : (a b x c n d t e f g y : List ℕ) → (a ++ b) ++ x ++ c ++ n ++ d ++ t ++ e ++ n ++ f ++ g ++ y ≡ a ++ ((b ++ x ++ c ++ n) ++ (d ++ (t ++ (e ++ (n ++ ((f ++ g) ++ y))))))
 array_pieces a b x c n d t e f g y = simp append_assoc
 
 def_finds : (d : CDef) (y : List ℕ) → is_spelled_def d ≡ true → def_at (type_line d ++ y) ≡ Some (d, y)
@@ -58,14 +58,16 @@ def_finds (def.Struct x all) y h =
     let ending : List ℕ = codes " };\n" ++ y in
     let rest : List ℕ = codes " {" ++ (flat_map field_text all ++ ending) in
     let regroup : type_line (def.Struct x all) ++ y ≡ codes "struct " ++ (x ++ (codes " {" ++ (flat_map field_text all ++ (codes " };\n" ++ y)))) = simp append_assoc in
-    ap def_at regroup ∙ rw (word_front x rest (name_word x p.0) refl, after_word_front x rest (name_word x p.0) refl, name_no_cp (codes "arr_") x p.0, p.0, all_find fields all ending refl refl p.1) refl
+    ap def_at regroup ∙ rw (word_front x rest (name_word x p.0) refl, after_word_front x rest (name_word x p.0) refl, name_no_cp (codes "arr_") x p.0, p.0, all_find fields all ending (omega arith) refl refl p.1) refl
 def_finds (def.Array x n) y h =
     let p = and_parts (is_element x) (is_u32 n) h in
     let w = array_word-word x n p.0 p.1 in
-    let inner : List ℕ = codes " { " ++ type_text (elem_type x) ++ codes " e[" ++ decimal n ++ codes "]; };\n" in
-    let regroup : type_line (def.Array x n) ++ y ≡ codes "struct " ++ (array_word x n ++ (inner ++ y)) =
+    let d : List ℕ = decimal n ++ (codes "]; };\n" ++ y) in
+    let e : List ℕ = type_text (elem_type x) ++ (codes " e[" ++ d) in
+    let rest : List ℕ = codes " { " ++ e in
+    let regroup : type_line (def.Array x n) ++ y ≡ codes "struct " ++ (array_word x n ++ rest) =
     array_pieces (codes "struct ") (codes "cp_arr_") x (codes "_") (decimal n) (codes " { ") (type_text (elem_type x)) (codes " e[") (codes "]; };") (codes "\n") y in
-    ap def_at regroup ∙ rw (word_front (array_word x n) (inner ++ y) w refl, after_word_front (array_word x n) (inner ++ y) w refl, array_of-is x n p.0 p.1, behind_front inner y) refl
+    ap def_at regroup ∙ rw (word_front (array_word x n) rest w refl, after_word_front (array_word x n) rest w refl, array_of-is x n p.0 p.1, behind_front (type_text (elem_type x)) (codes " e[" ++ d), behind_front (decimal n) (codes "]; };\n" ++ y)) refl
 
 def_starts : (d : CDef) (y : List ℕ) → begins (codes "struct ") (type_line d ++ y) ≡ true
 unfolding behind
@@ -92,7 +94,7 @@ externs = record {
 
 -- ---- handlers
 
-abbrev param_text : CTy → List ℕ
+abbrev pub param_text : CTy → List ℕ
 param_text k = codes ", " ++ type_text k
 
 params : ReadsLines (begins (codes ", ")) ends param_at param_text is_spelled_type
@@ -104,7 +106,7 @@ params = record {
   long = λ k h. omega arith;
 }
 
-with_commas-is : (k : CTy) (ks : List CTy) → with_commas (map type_text (k ∷ ks)) ≡ type_text k ++ flat_map param_text ks
+pub with_commas-is : (k : CTy) (ks : List CTy) → with_commas (map type_text (k ∷ ks)) ≡ type_text k ++ flat_map param_text ks
 with_commas-is k [] = sym (append-nil (type_text k))
 with_commas-is k (l ∷ ks) = ap (λ (x : List ℕ). type_text k ++ codes ", " ++ x) (with_commas-is l ks) ∙ simp append_assoc
 
@@ -126,7 +128,7 @@ params_find (k ∷ ks) y h =
     let p = and_parts (is_spelled_type k) (list_all is_spelled_type ks) h in
     let rest : List ℕ = flat_map param_text ks ++ (41 ∷ y) in
     let regroup : params_text (k ∷ ks) ++ (41 ∷ y) ≡ type_text k ++ (flat_map param_text ks ++ (41 ∷ y)) = ap (λ (x : List ℕ). x ++ (41 ∷ y)) (with_commas-is k ks) ∙ simp append_assoc in
-    ap params_at regroup ∙ rw (no_void k rest, type_finds k rest p.0 (params_end ks y), all_find params ks (41 ∷ y) refl refl p.1) refl
+    ap params_at regroup ∙ rw (no_void k rest, type_finds k rest p.0 (params_end ks y), all_find params ks (41 ∷ y) (omega arith) refl refl p.1) refl
 
 handler_starts : (h : CProto) (y : List ℕ) → is_spelled_handler h ≡ true → is_handler (handler_line h ++ y) ≡ true
 unfolding behind

@@ -62,3 +62,27 @@ back = ind-CExpr IsBack (λ x y is. subst (λ z. IsBack (roll-CExpr z)) is (leve
 
 pub one_tree : (a b : CExpr) → tree a ≡ tree b → a ≡ b
 one_tree a b same = sym (back a) ∙ ap untree same ∙ back b
+
+-- ---- the tree of an expression that was made of a tree
+
+mutual
+  pub tree_back : (a : Expr) → tree (untree a) ≡ a
+  tree_back (lit k n) = tree-Lit k n
+  tree_back yes = tree-True
+  tree_back no = tree-False
+  tree_back (copy x) = tree-Copy x
+  tree_back (head r) = tree-Head r
+  tree_back (cell r) = tree-Cell r
+  tree_back (ring_at r a) = tree-RingAt r (untree a) ∙ ap (ring_at r) (tree_back a)
+  tree_back (un op a) = tree-Un op (untree a) ∙ ap (un op) (tree_back a)
+  tree_back (bin op a b) = tree-Bin op (untree a) (untree b) ∙ rw (tree_back a, tree_back b) refl
+  tree_back (choose c a b) = tree-Cond (untree c) (untree a) (untree b) ∙ rw (tree_back c, tree_back a, tree_back b) refl
+  tree_back (cast ty a) = tree-Cast ty (untree a) ∙ ap (cast ty) (tree_back a)
+  tree_back (field a x) = tree-Field (untree a) x ∙ rw (tree_back a) refl
+  tree_back (pick x n a i) = tree-Pick x n (untree a) (untree i) ∙ rw (tree_back a, tree_back i) refl
+  tree_back (arr x n all) = tree-Arr x n (untrees all) ∙ ap (arr x n) (trees_back all)
+  tree_back (rec x all) = tree-Rec x (untrees all) ∙ ap (rec x) (trees_back all)
+
+  pub trees_back : (all : Exprs) → exprs (map tree (untrees all)) ≡ all
+  trees_back none = refl
+  trees_back (more a all) = rw (tree_back a, trees_back all) refl

@@ -1,5 +1,5 @@
 -- Two texts spell at most one program.
-use Rattle.std.proofs.Common.{◌≡◌, ℕ, false, List, [], ◌∷◌, ◌++◌, map, Some, refl, sym, ap, ◌∙◌, append_assoc, codes}
+use Rattle.std.proofs.Common.{arith, ◌≡◌, ℕ, false, List, [], ◌∷◌, ◌++◌, map, Some, refl, sym, ap, ◌∙◌, append_assoc, codes}
 use Rattle.std.specs.List.{flat_map}
 use Rattle.c99_tree.specs.declared.expr.CExpr.{CExpr}
 use Rattle.c99_tree.specs.declared.unit.CStmt.{CStmt}
@@ -9,13 +9,14 @@ use Rattle.c99_tree.specs.Tree.{tree, exprs, Stmt, copies, calls, nexts, stores,
 use Rattle.c99_tree.specs.Lookup.{arrays_in}
 use Rattle.c99_tree.specs.Spelling.{pick_line, copy_line, ring_lines, statement_line, source_text, HasSpelling, Spells}
 use Rattle.c99_read.specs.Front.{behind, begins}
-use Rattle.c99_read.specs.UnitAt.{Header, Source, header_of, known_at, source_of}
+use Rattle.c99_read.specs.declared.heading.Header.{Header}
+use Rattle.c99_read.specs.UnitAt.{Source, header_of, known_at, source_of}
 use Rattle.c99_read.proofs.FrontFinds.{behind_front, all_find}
 use Rattle.c99_read.proofs.RingsFind.{rings}
 use Rattle.c99_read.proofs.StatementsFind.{statements_read}
 use Rattle.c99_read.proofs.HeaderFinds.{header_in, header_finds}
+use Rattle.c99_read.proofs.WordsFind.{same_some}
 use Rattle.c99_read.proofs.OneTree.{untree, untrees, back}
-use Rattle.std.proofs.lemmas.Option.{same_Some}
 
 -- ---- the source
 
@@ -32,7 +33,7 @@ known_finds h y =
       behind_front (flat_map copy_line h.externs) y,
     ) refl
 
-source_pieces : (a n b l p c r s t d y : List ℕ) → a ++ n ++ b ++ l ++ p ++ c ++ r ++ s ++ t ++ d ++ y ≡ (a ++ n ++ (b ++ l)) ++ (p ++ (c ++ (r ++ ((s ++ t) ++ (d ++ y)))))
+pub source_pieces : (a n b l p c r s t d y : List ℕ) → a ++ n ++ b ++ l ++ p ++ c ++ r ++ s ++ t ++ d ++ y ≡ (a ++ n ++ (b ++ l)) ++ (p ++ (c ++ (r ++ ((s ++ t) ++ (d ++ y)))))
 source_pieces a n b l p c r s t d y = simp append_assoc
 
 no_ring : (y : List ℕ) → begins (codes "static ") (codes "void step(void)\n{\n" ++ y) ≡ false
@@ -56,9 +57,9 @@ source_finds u h =
     ap (source_of (header_in u)) regroup
     ∙ rw (
       known_finds (header_in u) all,
-      all_find (rings u.types) u.rings open' (no_ring steps) refl h.rings,
+      all_find (rings u.types) u.rings open' (omega arith) (no_ring steps) refl h.rings,
       behind_front (codes "void step(void)\n{\n") steps,
-      all_find (statements_read u h.rings) (statements u) end no_statement refl h.step,
+      all_find (statements_read u h.rings) (statements u) end (omega arith) no_statement refl h.step,
       behind_front end [],
     ) refl
 
@@ -69,7 +70,7 @@ unlist [] = refl
 unlist (e ∷ es) = rw (back e, unlist es) refl
 
 -- the statement of a tree
-abbrev unstatement : Stmt → CStmt
+abbrev pub unstatement : Stmt → CStmt
 unstatement (copies x) = s.Copy x
 unstatement (calls h g args) = s.Call h (untree g) (untrees args)
 unstatement (nexts r e) = s.Next r (untree e)
@@ -91,7 +92,7 @@ statements_back (a ∷ all) = rw (statement_back a, statements_back all) refl
 
 -- ---- the whole
 
-abbrev a_unit : Header → Source → CUnit
+abbrev pub a_unit : Header → Source → CUnit
 a_unit h s = record { name = h.name; types = h.types; storage = h.storage; need = h.need; externs = h.externs; handlers = h.handlers; rings = s.rings; step = map unstatement s.step }
 
 unit_back : (u : CUnit) → a_unit (header_in u) (source_in u) ≡ u
@@ -99,7 +100,7 @@ unit_back u = ap (λ (all : List CStmt). record { name = u.name; types = u.types
 
 pub one_unit : (u v : CUnit) (header source : List ℕ) → Spells u header source → Spells v header source → u ≡ v
 one_unit u v header source p q =
-    let headers : header_in u ≡ header_in v = same_Some (header_in u) (header_in v) (sym (header_finds u p.spelled) ∙ ap header_of (sym p.header_is ∙ q.header_is) ∙ header_finds v q.spelled) in
-    let sources : source_in u ≡ source_in v = same_Some (source_in u) (source_in v)
+    let headers : header_in u ≡ header_in v = same_some (header_in u) (header_in v) (sym (header_finds u p.spelled) ∙ ap header_of (sym p.header_is ∙ q.header_is) ∙ header_finds v q.spelled) in
+    let sources : source_in u ≡ source_in v = same_some (source_in u) (source_in v)
     (sym (source_finds u p.spelled) ∙ ap (λ (h : Header). source_of h (source_text u)) headers ∙ ap (source_of (header_in v)) (sym p.source_is ∙ q.source_is) ∙ source_finds v q.spelled) in
     sym (unit_back u) ∙ ap (λ (h : Header). a_unit h (source_in u)) headers ∙ ap (a_unit (header_in v)) sources ∙ unit_back v

@@ -14,8 +14,7 @@ use Rattle.c99_read.specs.Front.{behind, begins}
 use Rattle.c99_read.specs.LineAt.{a_ring, init_at, ring_lines_at}
 use Rattle.c99_read.proofs.FrontFinds.{behind_front, ends, number_finds, ring_name_finds, ReadsLines, anything}
 use Rattle.c99_read.proofs.TypeFinds.{type_finds}
-use Rattle.c99_read.proofs.WordsFind.{times_spent, value_spent, chained}
-use Rattle.std.proofs.lemmas.Option.{same_Some}
+use Rattle.c99_read.proofs.WordsFind.{times_spent, value_spent, chained, same_some}
 
 -- ---- texts with commas between them
 
@@ -32,12 +31,12 @@ constants-separated : (before : List ℕ) (vs : List Value) → constants before
 constants-separated before [] = refl
 constants-separated before (v ∷ vs) = ap (λ (x : List ℕ). before ++ constant v ++ x) (constants-separated (codes ", ") vs)
 
-constants-commas : (vs : List Value) → with_commas (map constant vs) ≡ constants [] (values vs)
+pub constants-commas : (vs : List Value) → with_commas (map constant vs) ≡ constants [] (values vs)
 constants-commas vs = with_commas-separated (map constant vs) ∙ sym (constants-separated [] vs)
 
 -- ---- the first values
 
-abbrev is_low : Value → Bool
+abbrev pub is_low : Value → Bool
 is_low v = leb (constant_height v) most_height
 
 low_values : (vs : List Value) → list_all is_low vs ≡ true → highest_constant (values vs) ≤ most_height
@@ -46,7 +45,7 @@ low_values (v ∷ vs) h = let p = and_parts (is_low v) (list_all is_low vs) h in
 
 -- a list of values in which no word is left
 whole-is : (a : List Value × List ℕ) (vs : List Value) → whole a ≡ Some vs → (a.0 ≡ vs) × (a.1 ≡ [])
-whole-is (us, []) vs h = (same_Some us vs h, refl)
+whole-is (us, []) vs h = (same_some us vs h, refl)
 whole-is (us, w ∷ ws) vs h = absurd (cc h)
 
 pair_is : (a : List Value × List ℕ) (vs : List Value) → a.0 ≡ vs → a.1 ≡ [] → ◌≡◌ {A = Option (List Value × List ℕ)} (Some a) (Some (vs, []))
@@ -70,12 +69,12 @@ init_finds ds r vs x h low e =
 
 -- ---- the two forms
 
-abbrev indexed_text : CRing → List Value → List ℕ
+abbrev pub indexed_text : CRing → List Value → List ℕ
 indexed_text r vs =
     line (codes "static " ++ type_text r.ty ++ codes " cp_b_" ++ r.name ++ codes "[" ++ decimal r.len ++ codes "] = { " ++ with_commas (map constant vs) ++ codes " };")
     ++ line (codes "static uint32_t cp_i_" ++ r.name ++ codes " = 0U;")
 
-abbrev single_text : CRing → List Value → List ℕ
+abbrev pub single_text : CRing → List Value → List ℕ
 single_text r vs = line (codes "static " ++ type_text r.ty ++ codes " cp_b_" ++ r.name ++ codes " = " ++ with_commas (map constant vs) ++ codes ";")
 
 -- the tests that a ring with a spelling has passed
@@ -94,7 +93,7 @@ sound ds r h =
     let b = and_parts (is_ring_name r.name) (is_spelled_type r.ty) c.0 in
     record { name = b.0; kind = b.1; len = c.1; one = d.1; first = e.1 }
 
-single_pieces : (a t b n c v d l y : List ℕ) → a ++ t ++ b ++ n ++ c ++ v ++ d ++ l ++ y ≡ a ++ (t ++ (b ++ (n ++ (c ++ (v ++ ((d ++ l) ++ y))))))
+pub single_pieces : (a t b n c v d l y : List ℕ) → a ++ t ++ b ++ n ++ c ++ v ++ d ++ l ++ y ≡ a ++ (t ++ (b ++ (n ++ (c ++ (v ++ ((d ++ l) ++ y))))))
 single_pieces a t b n c v d l y = simp append_assoc
 
 single_finds : (ds : List CDef) (r : CRing) (vs : List Value) (y : List ℕ) → IsSound ds r → r.indexed ≡ false → r.len ≡ 1 → first_values ds r ≡ Some vs → list_all is_low vs ≡ true
@@ -110,7 +109,7 @@ single_finds ds r vs y s i one h low =
     ap (ring_lines_at ds) regroup
     ∙ rw (type_finds r.ty (codes " cp_b_" ++ (r.name ++ rest)) s.kind refl, ring_name_finds r.name rest s.name refl, found) (ap (λ (q : CRing). Some (q, y)) same)
 
-indexed_pieces : (a t b n c l d v e k f g y : List ℕ) → a ++ t ++ b ++ n ++ c ++ l ++ d ++ v ++ e ++ k ++ (f ++ n ++ g ++ k) ++ y
+pub indexed_pieces : (a t b n c l d v e k f g y : List ℕ) → a ++ t ++ b ++ n ++ c ++ l ++ d ++ v ++ e ++ k ++ (f ++ n ++ g ++ k) ++ y
     ≡ a ++ (t ++ (b ++ (n ++ (c ++ (l ++ (d ++ (v ++ (((e ++ k ++ f) ++ n ++ (g ++ k)) ++ y))))))))
 indexed_pieces a t b n c l d v e k f g y = simp append_assoc
 
@@ -129,7 +128,7 @@ indexed_finds ds r vs y s i h low =
     ∙ rw (type_finds r.ty (codes " cp_b_" ++ (r.name ++ rest)) s.kind refl, ring_name_finds r.name rest s.name refl, number_finds r.len (codes "] = { " ++ v) s.len refl, found, behind_front ending y) (ap (λ (q : CRing). Some (q, y)) same)
 
 -- the lines of a ring whose first values are these
-lines-are : (ds : List CDef) (r : CRing) (vs : List Value) → first_values ds r ≡ Some vs → ring_lines ds r ≡ (if r.indexed then indexed_text r vs else single_text r vs)
+pub lines-are : (ds : List CDef) (r : CRing) (vs : List Value) → first_values ds r ≡ Some vs → ring_lines ds r ≡ (if r.indexed then indexed_text r vs else single_text r vs)
 lines-are ds r vs h = ap (λ (o : Option (List Value)). option_map_or (ring_lines_of r) o []) h
 
 choose_lines : (b : Bool) (p q : List ℕ) (P : List ℕ → Type 0) → (b ≡ true → P p) → (b ≡ false → P q) → P (if b then p else q)

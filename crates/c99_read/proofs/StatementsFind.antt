@@ -1,10 +1,10 @@
 -- The statements of `step` are read as they were written.
-use Rattle.std.proofs.Common.{◌≡◌, ℕ, ◌<◌, ◌≤◌, Bool, true, false, ◌&&◌, leb, List, [], ◌∷◌, ◌++◌, length, Option, Some, None, refl, sym, ap, ◌∙◌, append_assoc, codes, arith}
+use Rattle.std.proofs.Common.{◌≡◌, ℕ, ◌<◌, ◌≤◌, Bool, true, false, ◌&&◌, leb, eqb, List, [], ◌∷◌, ◌++◌, length, Option, Some, None, refl, sym, ap, ◌∙◌, append_assoc, codes, arith}
 use Rattle.std.specs.Prelude.{is_some, if◌then◌else◌}
 use Rattle.std.specs.Fmt.{decimal}
 use Rattle.std.specs.Option.{option_map_or}
 use Rattle.std.specs.List.{list_all, find}
-use Rattle.std.proofs.lemmas.Bool.{and_parts, leb-true, true≢false}
+use Rattle.std.proofs.lemmas.Bool.{and_from, and_parts, eq-eqb, leb-true, true≢false}
 use Rattle.sm_io.specs.Words.{is_name}
 use Rattle.c99_tree.specs.declared.types.CScalar.{CScalar}
 use Rattle.c99_tree.specs.declared.types.CScalar.TheVariants as t
@@ -12,20 +12,20 @@ use Rattle.c99_tree.specs.declared.types.CTy.{CTy}
 use Rattle.c99_tree.specs.declared.types.CTy.TheVariants as ty
 use Rattle.c99_tree.specs.declared.unit.CRing.{CRing}
 use Rattle.c99_tree.specs.declared.unit.Unit.{Unit as CUnit}
-use Rattle.c99_tree.specs.Words.{is_ring_name}
+use Rattle.c99_tree.specs.Words.{is_same, is_ring_name}
 use Rattle.c99_tree.specs.Lookup.{ring_of}
 use Rattle.c99_tree.specs.Tree.{Expr, Exprs, none, more, Stmt, copies, calls, nexts, stores, moves, puts}
 use Rattle.c99_tree.specs.Spelling.{text, parted, height, highest, scalar_text, type_text, most_height, is_spelled, are_spelled, is_spelled_here, are_spelled_here, is_spelled_type, is_spelled_ring, is_spelled_statement, statement_line}
 use Rattle.c99_read.specs.Front.{behind, word, after_word, begins}
 use Rattle.c99_read.specs.ExprAt.{expr_at}
-use Rattle.c99_read.specs.LineAt.{given_at, next_at, statement_by, statement_at}
+use Rattle.c99_read.specs.LineAt.{given_at, is_type, next_at, statement_by, statement_at}
 use Rattle.c99_read.proofs.FrontFinds.{same_self, behind_front, word_front, after_word_front, name_word, ring_word, name_finds, ring_name_finds, ReadsLines, anything}
 use Rattle.c99_read.proofs.TypeFinds.{are_scalars, type_finds}
+use Rattle.c99_read.proofs.WordsFind.{same_some}
 use Rattle.c99_read.proofs.RingsFind.{sound}
 use Rattle.c99_read.proofs.ExprFinds.{Reads, again, all_again, list_finds}
-use Rattle.std.proofs.lemmas.Option.{same_Some}
 
-here_reads : (e : Expr) → is_spelled_here e ≡ true → Reads (expr_at most_height) e
+pub here_reads : (e : Expr) → is_spelled_here e ≡ true → Reads (expr_at most_height) e
 here_reads e h = let p = and_parts (is_spelled e) (leb (height e) most_height) h in again e most_height (leb-true (height e) most_height p.1) p.0
 
 all_here : (es : Exprs) → are_spelled_here es ≡ true → (are_spelled es ≡ true) × (highest es ≤ most_height)
@@ -46,7 +46,7 @@ given_finds e y h = rw ((here_reads e h).finds (codes ";\n" ++ y) refl) refl
 abbrev Found : CUnit → Stmt → Type 0
 Found u s = (y : List ℕ) → statement_at u.rings (statement_line u s ++ y) ≡ Some (s, y)
 
-copy_pieces : (a x b c l y : List ℕ) → a ++ x ++ b ++ x ++ c ++ l ++ y ≡ a ++ x ++ ((b ++ x ++ (c ++ l)) ++ y)
+pub copy_pieces : (a x b c l y : List ℕ) → a ++ x ++ b ++ x ++ c ++ l ++ y ≡ a ++ x ++ ((b ++ x ++ (c ++ l)) ++ y)
 copy_pieces a x b c l y = simp append_assoc
 
 copies_find : (u : CUnit) (x : List ℕ) → is_name x ≡ true → Found u (copies x)
@@ -57,7 +57,7 @@ copies_find u x h y =
     ap (statement_at u.rings) (copy_pieces (codes "  cp_c_") x (codes " = ") (codes ";") (codes "\n") y)
     ∙ rw (word_front (codes "cp_c_" ++ x) (ending ++ y) w refl, after_word_front (codes "cp_c_" ++ x) (ending ++ y) w refl, h, behind_front ending y) refl
 
-value_pieces : (a r b e c l y : List ℕ) → a ++ r ++ b ++ e ++ c ++ l ++ y ≡ a ++ r ++ (b ++ (e ++ ((c ++ l) ++ y)))
+pub value_pieces : (a r b e c l y : List ℕ) → a ++ r ++ b ++ e ++ c ++ l ++ y ≡ a ++ r ++ (b ++ (e ++ ((c ++ l) ++ y)))
 value_pieces a r b e c l y = simp append_assoc
 
 moves_find : (u : CUnit) (r : List ℕ) (e : Expr) → is_ring_name r ≡ true → is_spelled_here e ≡ true → Found u (moves r e)
@@ -76,7 +76,7 @@ puts_find u r h y =
     ap (statement_at u.rings) (copy_pieces (codes "  cp_b_") r (codes " = cp_n_") (codes ";") (codes "\n") y)
     ∙ rw (word_front (codes "cp_b_" ++ r) (ending ++ y) w refl, after_word_front (codes "cp_b_" ++ r) (ending ++ y) w refl, h, behind_front ending y) refl
 
-store_pieces : (a r b e c d l y : List ℕ) → a ++ r ++ b ++ e ++ c ++ r ++ d ++ l ++ y ≡ a ++ r ++ (b ++ (e ++ ((c ++ r ++ (d ++ l)) ++ y)))
+pub store_pieces : (a r b e c d l y : List ℕ) → a ++ r ++ b ++ e ++ c ++ r ++ d ++ l ++ y ≡ a ++ r ++ (b ++ (e ++ ((c ++ r ++ (d ++ l)) ++ y)))
 store_pieces a r b e c d l y = simp append_assoc
 
 stores_find : (u : CUnit) (r : List ℕ) (e : Expr) → is_ring_name r ≡ true → is_spelled_here e ≡ true → Found u (stores r e)
@@ -88,7 +88,7 @@ stores_find u r e h k y =
     ap (statement_at u.rings) (store_pieces (codes "  cp_b_") r (codes "[") (text e) (codes "] = cp_n_") (codes ";") (codes "\n") y)
     ∙ rw (word_front (codes "cp_b_" ++ r) rest w refl, after_word_front (codes "cp_b_" ++ r) rest w refl, h, (here_reads e k).finds (ending ++ y) refl, behind_front ending y) refl
 
-call_pieces : (a g b h c p d l y : List ℕ) → a ++ g ++ b ++ h ++ c ++ p ++ d ++ l ++ y ≡ a ++ (g ++ (b ++ (h ++ (c ++ (p ++ ((d ++ l) ++ y))))))
+pub call_pieces : (a g b h c p d l y : List ℕ) → a ++ g ++ b ++ h ++ c ++ p ++ d ++ l ++ y ≡ a ++ (g ++ (b ++ (h ++ (c ++ (p ++ ((d ++ l) ++ y))))))
 call_pieces a g b h c p d l y = simp append_assoc
 
 calls_find : (u : CUnit) (h : List ℕ) (g : Expr) (args : Exprs) → is_name h ≡ true → is_spelled_here g ≡ true → are_spelled_here args ≡ true → Found u (calls h g args)
@@ -121,7 +121,7 @@ not_other rings (ty.Struct x) y h = rw (word_front (codes "struct") (32 ∷ (x +
 not_other rings (ty.Array x n) y h = rw (word_front (codes "struct") (32 ∷ (codes "cp_arr_" ++ x ++ codes "_" ++ decimal n ++ (32 ∷ y))) refl refl) refl
 
 found_by : {A : Type 0} (p : A → Bool) (a x : A) (b : Bool) (o : Option A) → p a ≡ true → (o ≡ Some x → p x ≡ true) → (if b then Some a else o) ≡ Some x → p x ≡ true
-found_by p a x true o h f g = rw (← same_Some a x g) h
+found_by p a x true o h f g = rw (← same_some a x g) h
 found_by p a x false o h f g = f g
 
 found_passes : {A : Type 0} (p test : A → Bool) (xs : List A) (x : A) → list_all p xs ≡ true → find test xs ≡ Some x → p x ≡ true
@@ -132,7 +132,12 @@ is_some-Some : {A : Type 0} (o : Option A) → is_some o ≡ true → (x : A) ×
 is_some-Some None h = absurd (true≢false (sym h))
 is_some-Some (Some x) h = (x, refl)
 
-next_pieces : (i t b r c e d l y : List ℕ) → i ++ t ++ b ++ r ++ c ++ e ++ d ++ l ++ y ≡ i ++ (t ++ (b ++ (r ++ (c ++ (e ++ ((d ++ l) ++ y))))))
+type_self : (a : CTy) → is_type a a ≡ true
+type_self (ty.Scalar t) = same_self (scalar_text t)
+type_self (ty.Struct x) = same_self x
+type_self (ty.Array x n) = and_from (is_same x x) (eqb n n) (same_self x) (eq-eqb n n refl)
+
+pub next_pieces : (i t b r c e d l y : List ℕ) → i ++ t ++ b ++ r ++ c ++ e ++ d ++ l ++ y ≡ i ++ (t ++ (b ++ (r ++ (c ++ (e ++ ((d ++ l) ++ y))))))
 next_pieces i t b r c e d l y = simp append_assoc
 
 nexts_find : (u : CUnit) (r : List ℕ) (e : Expr) (ring : CRing) → ring_of u r ≡ Some ring → is_spelled_type ring.ty ≡ true → is_ring_name r ≡ true → is_spelled_here e ≡ true → Found u (nexts r e)
@@ -144,7 +149,7 @@ nexts_find u r e ring f k h s y =
     ap (λ (o : Option CRing). codes "  " ++ option_map_or (λ (x : CRing). type_text x.ty) o [] ++ codes " cp_n_" ++ r ++ codes " = " ++ text e ++ codes ";" ++ codes "\n" ++ y) f in
     ap (statement_at u.rings) (line-is ∙ next_pieces (codes "  ") (type_text ring.ty) (codes " cp_n_") r (codes " = ") (text e) (codes ";") (codes "\n") y)
     ∙ not_other u.rings ring.ty tail k
-    ∙ rw (type_finds ring.ty (32 ∷ tail) k refl, ring_name_finds r rest h refl, f, same_self (type_text ring.ty), given_finds e y s) refl
+    ∙ rw (type_finds ring.ty (32 ∷ tail) k refl, ring_name_finds r rest h refl, f, type_self ring.ty, given_finds e y s) refl
 
 -- ---- all
 

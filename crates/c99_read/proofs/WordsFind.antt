@@ -5,7 +5,7 @@ use Rattle.std.specs.Fmt.{decimal}
 use Rattle.std.specs.List.{list_all}
 use Rattle.std.specs.Option.{option_map, option_and_then}
 use Rattle.std.proofs.lemmas.Fmt.{decimal_nonempty}
-use Rattle.std.proofs.lemmas.Option.{cond_some, same_Some}
+use Rattle.std.proofs.lemmas.Option.{cond_some}
 use Rattle.std.proofs.lemmas.Bool.{and_parts, or_cases, ne_eqb, le-leb, lt-leb, lt-ltb, leb-true, ltb-true, cases_eq, cond_both}
 use Rattle.c99_tree.specs.declared.types.CScalar.{CScalar}
 use Rattle.c99_tree.specs.declared.types.CScalar.TheVariants as t
@@ -49,19 +49,19 @@ negative_finds depth tail most n x a e low small deep =
 below : (w : ℕ) → w < 2 ^ 64 → pos w -ℤ pos (2 ^ 64) ≡ negsuc (2 ^ 64 - 1 - w)
 below w h = rw (lt-ltb w (2 ^ 64) h) (ap negsuc (omega arith))
 
-abbrev number_by : CScalar → ℕ → Bool → ℤ
+abbrev pub number_by : CScalar → ℕ → Bool → ℤ
 number_by ty w b = (if b then num ty (pos w -ℤ pos (2 ^ 64)) else num ty (pos w)).n
 
-abbrev signed_number : CScalar → ℕ → ℤ
+abbrev pub signed_number : CScalar → ℕ → ℤ
 signed_number ty w = number_by ty w (leb (2 ^ 63) w)
 
 abbrev is_signed_word : ℕ → ℕ → Bool
 is_signed_word half w = ltb w half || (leb (2 ^ 64 - half) w && ltb w (2 ^ 64))
 
-number_low : (ty : CScalar) (w : ℕ) → w < 2 ^ 63 → signed_number ty w ≡ pos w
+pub number_low : (ty : CScalar) (w : ℕ) → w < 2 ^ 63 → signed_number ty w ≡ pos w
 number_low ty w h = ap (number_by ty w) (lt-leb (2 ^ 63) w h)
 
-number_high : (ty : CScalar) (w : ℕ) → 2 ^ 63 ≤ w → w < 2 ^ 64 → signed_number ty w ≡ negsuc (2 ^ 64 - 1 - w)
+pub number_high : (ty : CScalar) (w : ℕ) → 2 ^ 63 ≤ w → w < 2 ^ 64 → signed_number ty w ≡ negsuc (2 ^ 64 - 1 - w)
 number_high ty w h k = ap (number_by ty w) (le-leb (2 ^ 63) w h) ∙ below w k
 
 signed_finds : (ty : CScalar) (tail : List ℕ) (half depth w : ℕ) (x : List ℕ) → all_word tail ≡ true → ends_number tail ≡ true → half ≤ 2 ^ 63 → is_signed_word half w ≡ true
@@ -120,6 +120,9 @@ pub chained : {A B : Type 0} (f : A → Option B) (o : Option A) (y : B) → opt
 chained f None y h = absurd (cc h)
 chained f (Some a) y h = (a, refl, h)
 
+pub same_some : {A : Type 0} (x y : A) → Some x ≡ Some y → x ≡ y
+same_some x y h = cc h
+
 constants_end : (vs : Values) (x : List ℕ) → ends x ≡ true → ends (constants (codes ", ") vs ++ x) ≡ true
 constants_end no_value x h = h
 constants_end (and_value v vs) x h = refl
@@ -139,7 +142,7 @@ then_finds first others before v vs ws mid rest a b = record {
   };
 }
 
-word_type : (ty : CScalar) (w : ℕ) → (number_of_word ty w).ty ≡ ty
+pub word_type : (ty : CScalar) (w : ℕ) → (number_of_word ty w).ty ≡ ty
 word_type ty w = cond_both (is_signed ty && leb (2 ^ 63) w) (num ty (pos w -ℤ pos (2 ^ 64))) (num ty (pos w)) (λ (x : Num). x.ty ≡ ty) (λ e. refl) (λ e. refl)
 
 scalar_spent : (ty : CScalar) (depth : ℕ) (ws : List ℕ) (v : Value) (rest : List ℕ) → filled (scalar ty) ws ≡ Some (v, rest) → constant_height v ≤ depth → Spent (words_at depth (scalar ty)) (constant v) ws rest
@@ -188,8 +191,8 @@ pub times_spent : (n depth : ℕ) (shape : Shape) (before ws : List ℕ) (vs : L
     → repeated n (filled shape) ws ≡ Some (vs, rest) → highest_constant (values vs) ≤ depth → Spent (times_at n (words_at depth shape) before) (constants before (values vs)) ws rest
 unfolding times_at
 times_spent zero depth shape before ws vs rest one h d =
-    let vs-is : [] ≡ vs = ap (λ (x : List Value × List ℕ). x.0) (same_Some ([], ws) (vs, rest) h) in
-    let rest-is : ws ≡ rest = ap (λ (x : List Value × List ℕ). x.1) (same_Some ([], ws) (vs, rest) h) in
+    let vs-is : [] ≡ vs = ap (λ (x : List Value × List ℕ). x.0) (same_some ([], ws) (vs, rest) h) in
+    let rest-is : ws ≡ rest = ap (λ (x : List Value × List ℕ). x.1) (same_some ([], ws) (vs, rest) h) in
     subst (λ (us : List Value). Spent (times_at zero (words_at depth shape) before) (constants before (values us)) ws rest) vs-is
     (subst (λ (r : List ℕ). Spent (times_at zero (words_at depth shape) before) [] ws r) rest-is (nothing_spent (times_at zero (words_at depth shape) before) ws (λ x. refl)))
 times_spent (suc n) depth shape before ws vs rest one h d =
@@ -228,8 +231,8 @@ mutual
 
   pub all_spent : (shapes : Shapes) (depth : ℕ) (before ws : List ℕ) (vs : Values) (rest : List ℕ) → filled_all shapes ws ≡ Some (vs, rest) → highest_constant vs ≤ depth → Spent (all_words_at depth shapes before) (constants before vs) ws rest
   all_spent no_shape depth before ws vs rest h d =
-      let vs-is : no_value ≡ vs = ap (λ (x : Values × List ℕ). x.0) (same_Some (no_value, ws) (vs, rest) h) in
-      let rest-is : ws ≡ rest = ap (λ (x : Values × List ℕ). x.1) (same_Some (no_value, ws) (vs, rest) h) in
+      let vs-is : no_value ≡ vs = ap (λ (x : Values × List ℕ). x.0) (same_some (no_value, ws) (vs, rest) h) in
+      let rest-is : ws ≡ rest = ap (λ (x : Values × List ℕ). x.1) (same_some (no_value, ws) (vs, rest) h) in
       subst (λ (us : Values). Spent (all_words_at depth no_shape before) (constants before us) ws rest) vs-is
       (subst (λ (r : List ℕ). Spent (all_words_at depth no_shape before) [] ws r) rest-is (nothing_spent (all_words_at depth no_shape before) ws (λ x. refl)))
   all_spent (and_shape shape shapes) depth before ws vs rest h d =

@@ -66,8 +66,17 @@ closed end e rest = behind end rest >>= λ r. Some (e, r)
 
 -- ---- lists
 
+-- these items before those that were found
+abbrev pub joined : Exprs → Exprs → Exprs
+joined none es = es
+joined (more e es) fs = more e (joined es fs)
+
+abbrev pub onto : Exprs → FoundAll → FoundAll
+onto es None = None
+onto es (Some b) = Some (joined es b.0, b.1)
+
 abbrev pub item_and : Sub → (List ℕ → FoundAll) → List ℕ → FoundAll
-item_and sub others s = sub s >>= λ a. others a.1 >>= λ b. Some (more a.0 b.0, b.1)
+item_and sub others s = sub s >>= λ a. onto (more a.0 none) (others a.1)
 
 abbrev pub item_or : Sub → (List ℕ → FoundAll) → List ℕ → Option (List ℕ) → FoundAll
 item_or sub others s None = Some (none, s)
@@ -84,7 +93,7 @@ ends_list [] = true
 ends_list (b ∷ bs) = b == 32 || b == 41
 
 unfoldable pub list_at : Sub → List ℕ → FoundAll
-list_at sub s = if ends_list s then Some (none, s) else item_and sub (others_at sub (suc (length s))) s
+list_at sub s = if ends_list s then Some (none, s) else item_and sub (others_at sub (length s)) s
 
 -- ---- forms
 
@@ -188,7 +197,7 @@ level sub bytes = at_word sub (word bytes) (after_word bytes)
 abbrev pub nothing : Sub
 nothing bytes = None
 
--- an expression of height 0 is a word: no form in brackets, also not one of no parts
+-- an expression of height 0 is a word
 abbrev pub lowest : Sub
 lowest bytes = if begins (codes "(") bytes then None else level nothing bytes
 

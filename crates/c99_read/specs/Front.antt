@@ -1,5 +1,5 @@
 -- What stands at the front of a text: fixed bytes, words, numbers, names and lines.
-use Rattle.std.specs.Prelude.{ℕ, zero, suc, Bool, true, false, not, ◌&&◌, ◌==◌, nat_le, if◌then◌else◌, List, [], ◌∷◌, length, Option, Some, None}
+use Rattle.std.specs.Prelude.{ℕ, zero, suc, Bool, true, false, not, ◌&&◌, ◌==◌, nat_le, if◌then◌else◌, List, [], ◌∷◌, ◌++◌, length, Option, Some, None}
 use Rattle.std.specs.Str.Parse.{digits_value}
 use Rattle.std.specs.List.{list_all}
 use Rattle.sm_io.specs.Names.{is_name_byte}
@@ -85,13 +85,18 @@ array_of w =
 
 -- ---- lines
 
+-- these before those that were found
+abbrev pub after_all : {A : Type 0} → List A → Option (List A × List ℕ) → Option (List A × List ℕ)
+after_all done None = None
+after_all done (Some b) = Some (done ++ b.0, b.1)
+
 -- as many as there are that begin so, and what stands behind them
 unfoldable pub many : {A : Type 0} → (List ℕ → Bool) → (List ℕ → Option (A × List ℕ)) → ℕ → List ℕ → Option (List A × List ℕ)
 many test r zero s = None
-many test r (suc n) s = if test s then r s >>= (λ a. many test r n a.1 >>= λ b. Some (a.0 ∷ b.0, b.1)) else Some ([], s)
+many test r (suc n) s = if test s then r s >>= (λ a. after_all (a.0 ∷ []) (many test r n a.1)) else Some ([], s)
 
 abbrev pub all_at : {A : Type 0} → (List ℕ → Bool) → (List ℕ → Option (A × List ℕ)) → List ℕ → Option (List A × List ℕ)
-all_at test r s = many test r (suc (length s)) s
+all_at test r s = many test r (length s) s
 
 abbrev pub is_found : Option (List ℕ) → Bool
 is_found None = false

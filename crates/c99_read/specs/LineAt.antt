@@ -1,10 +1,11 @@
 -- Reading the lines of a header and of a source.
-use Rattle.std.specs.Prelude.{ℕ, Bool, true, false, not, if◌then◌else◌, List, [], ◌∷◌, ◌++◌, codes, Option, Some, None}
+use Rattle.std.specs.Prelude.{ℕ, Bool, true, false, not, nat_eq, ◌&&◌, if◌then◌else◌, List, [], ◌∷◌, ◌++◌, codes, Option, Some, None}
 use Rattle.std.specs.Option.{option_map_or}
 use Rattle.std.specs.List.{find}
 use Rattle.std.specs.Fmt.{decimal}
 use Rattle.sm_io.specs.Words.{is_name}
 use Rattle.c99_tree.specs.declared.types.CTy.{CTy}
+use Rattle.c99_tree.specs.declared.types.CTy.TheVariants as ty
 use Rattle.c99_tree.specs.declared.types.CVar.{CVar}
 use Rattle.c99_tree.specs.declared.types.CDef.{CDef}
 use Rattle.c99_tree.specs.declared.types.CDef.TheVariants as def
@@ -13,8 +14,8 @@ use Rattle.c99_tree.specs.declared.unit.CRing.{CRing}
 use Rattle.c99_tree.specs.Words.{is_same, elem_type, is_ring_name}
 use Rattle.c99_tree.specs.Tree.{Expr, Stmt, copies, calls, nexts, stores, moves, puts}
 use Rattle.c99_tree.specs.Values.{shape_of}
-use Rattle.c99_tree.specs.Spelling.{type_text, most_height}
-use Rattle.c99_read.specs.Front.{◌>>=◌, behind, word, after_word, number_at, name_at, ring_name_at, array_of, all_at, begins}
+use Rattle.c99_tree.specs.Spelling.{scalar_text, type_text, most_height}
+use Rattle.c99_read.specs.Front.{◌>>=◌, behind, word, after_word, number_at, name_at, ring_name_at, array_of, all_at, after_all, begins}
 use Rattle.c99_read.specs.TypeAt.{type_at}
 use Rattle.c99_read.specs.ExprAt.{expr_at, list_at}
 use Rattle.c99_read.specs.WordsAt.{FoundWords, words_at, times_at}
@@ -38,8 +39,8 @@ is_field s = not (begins (codes " }") s)
 
 abbrev pub array_def_at : List ℕ → List ℕ → Option (CDef × List ℕ)
 array_def_at w rest =
-    array_of w >>= λ p. behind (codes " { " ++ type_text (elem_type p.0) ++ codes " e[" ++ decimal p.1 ++ codes "]; };\n") rest
-    >>= λ r. Some (def.Array p.0 p.1, r)
+    array_of w >>= λ p. behind (codes " { ") rest >>= λ a. behind (type_text (elem_type p.0)) a >>= λ b. behind (codes " e[") b
+    >>= λ c. behind (decimal p.1) c >>= λ d. behind (codes "]; };\n") d >>= λ r. Some (def.Array p.0 p.1, r)
 
 abbrev pub struct_def_at : List ℕ → List ℕ → Option (CDef × List ℕ)
 struct_def_at w rest =
@@ -64,7 +65,7 @@ param_at s = behind (codes ", ") s >>= type_at
 
 abbrev pub params_by : List ℕ → Option (List ℕ) → Option (List CTy × List ℕ)
 params_by s (Some r) = Some ([], r)
-params_by s None = type_at s >>= λ t. all_at (begins (codes ", ")) param_at t.1 >>= λ all. Some (t.0 ∷ all.0, all.1)
+params_by s None = type_at s >>= λ t. after_all (t.0 ∷ []) (all_at (begins (codes ", ")) param_at t.1)
 
 -- the types of parameters, or the word for none
 unfoldable pub params_at : List ℕ → Option (List CTy × List ℕ)
@@ -100,10 +101,14 @@ single_at ds t r s =
     behind (codes " = ") s >>= λ x. init_at ds t 1 x >>= λ ws. behind (codes ";\n") ws.1 >>= λ y.
     Some (a_ring r t 1 false ws.0, y)
 
+-- the constants of a ring with an index, and what stands behind them
+abbrev pub filled_at : List CDef → CTy → List ℕ → ℕ → List ℕ → Option (CRing × List ℕ)
+filled_at ds t r n s =
+    init_at ds t n s >>= λ ws. behind (codes " };\nstatic uint32_t cp_i_" ++ r ++ codes " = 0U;\n") ws.1 >>= λ y.
+    Some (a_ring r t n true ws.0, y)
+
 abbrev pub indexed_at : List CDef → CTy → List ℕ → List ℕ → Option (CRing × List ℕ)
-indexed_at ds t r s =
-    number_at s >>= λ n. behind (codes "] = { ") n.1 >>= λ x. init_at ds t n.0 x >>= λ ws.
-    behind (codes " };\nstatic uint32_t cp_i_" ++ r ++ codes " = 0U;\n") ws.1 >>= λ y. Some (a_ring r t n.0 true ws.0, y)
+indexed_at ds t r s = number_at s >>= λ n. behind (codes "] = { ") n.1 >>= filled_at ds t r n.0
 
 abbrev pub ring_by : List CDef → CTy → List ℕ → List ℕ → Option (List ℕ) → Option (CRing × List ℕ)
 ring_by ds t r s None = single_at ds t r s
@@ -138,26 +143,35 @@ store_by r s (Some at) =
 abbrev pub store_at : List ℕ → List ℕ → Option (Stmt × List ℕ)
 store_at r s = if is_ring_name r then store_by r s (behind (codes "[") s) else None
 
+-- the rest of a call, behind the brace
+abbrev pub called_at : Expr → List ℕ → Option (Stmt × List ℕ)
+called_at e s =
+    name_at s >>= λ h. behind (codes "(") h.1 >>= λ y. list_at (expr_at most_height) y >>= λ all.
+    behind (codes "); }\n") all.1 >>= λ z. Some (calls h.0 e all.0, z)
+
 abbrev pub call_at : List ℕ → Option (Stmt × List ℕ)
-call_at s =
-    behind (codes " (") s >>= λ r. value_at r >>= λ e. behind (codes ") { ") e.1 >>= λ x. name_at x >>= λ h.
-    behind (codes "(") h.1 >>= λ y. list_at (expr_at most_height) y >>= λ all. behind (codes "); }\n") all.1 >>= λ z.
-    Some (calls h.0 e.0 all.0, z)
+call_at s = behind (codes " (") s >>= λ r. value_at r >>= λ e. behind (codes ") { ") e.1 >>= called_at e.0
 
 -- the type that a Next writes: that of the first ring of its name
 abbrev pub type_of_ring_in : List CRing → List ℕ → Option CTy
 type_of_ring_in rings r = option_map_or (λ x. Some x.ty) (find (λ x. is_same r x.name) rings) None
 
 abbrev pub is_type : CTy → CTy → Bool
-is_type a b = is_same (type_text a) (type_text b)
+is_type (ty.Scalar s) (ty.Scalar t) = is_same (scalar_text s) (scalar_text t)
+is_type (ty.Struct x) (ty.Struct y) = is_same x y
+is_type (ty.Array x n) (ty.Array y m) = is_same x y && nat_eq n m
+is_type _ _ = false
 
 abbrev pub next_of : List CRing → CTy → List ℕ → Option (List ℕ)
 next_of rings t r = type_of_ring_in rings r >>= λ k. if is_type t k then Some r else None
 
+-- a Next of this type, from the ring's name on
+abbrev pub next_named : List CRing → CTy → List ℕ → Option (Stmt × List ℕ)
+next_named rings t s =
+    ring_name_at s >>= λ r. next_of rings t r.0 >>= λ y. given_at r.1 >>= λ e. Some (nexts r.0 e.0, e.1)
+
 abbrev pub next_at : List CRing → List ℕ → Option (Stmt × List ℕ)
-next_at rings s =
-    type_at s >>= λ t. behind (codes " cp_n_") t.1 >>= λ x. ring_name_at x >>= λ r. next_of rings t.0 r.0 >>= λ y.
-    given_at r.1 >>= λ e. Some (nexts r.0 e.0, e.1)
+next_at rings s = type_at s >>= λ t. behind (codes " cp_n_") t.1 >>= next_named rings t.0
 
 abbrev pub by_index : List CRing → Option (List ℕ) → List ℕ → List ℕ → Option (Stmt × List ℕ)
 by_index rings (Some r) s rest = move_at r rest
@@ -178,3 +192,28 @@ statement_by rings s w rest =
 -- a statement, where these are the rings
 unfoldable pub statement_at : List CRing → List ℕ → Option (Stmt × List ℕ)
 statement_at rings s = behind (codes "  ") s >>= λ r. statement_by rings r (word r) (after_word r)
+
+-- ---- the lines that follow from the header
+
+-- an array's type
+abbrev pub array_at : List ℕ → ℕ → List ℕ → Option (List ℕ)
+array_at x n s = behind (codes "struct cp_arr_") s >>= behind x >>= behind (codes "_") >>= behind (decimal n)
+
+-- the name of the function that reads an element
+abbrev pub pick_name_at : List ℕ → ℕ → List ℕ → Option (List ℕ)
+pick_name_at x n s =
+    behind (codes "static ") s >>= behind (type_text (elem_type x)) >>= behind (codes " cp_ix_") >>= behind x
+    >>= behind (codes "_") >>= behind (decimal n)
+
+abbrev pub pick_at : List ℕ → ℕ → List ℕ → Option (List ℕ)
+pick_at x n s =
+    pick_name_at x n s >>= behind (codes "(") >>= array_at x n
+    >>= behind (codes " cp_a, uint32_t cp_k) { return cp_a.e[cp_k]; }\n")
+
+abbrev pub pick_of : CDef → List ℕ → Option (List ℕ)
+pick_of (def.Struct x fields) s = Some s
+pick_of (def.Array x n) s = pick_at x n s
+
+abbrev pub copy_of : CVar → List ℕ → Option (List ℕ)
+copy_of x s =
+    behind (codes "static ") s >>= behind (type_text x.ty) >>= behind (codes " cp_c_") >>= behind x.name >>= behind (codes ";\n")

@@ -72,3 +72,17 @@ unfoldable mutual
   all_words_at depth no_shape before s = Some ([], s)
   all_words_at depth (and_shape shape shapes) before s =
       words_then (words_at depth shape) (all_words_at depth shapes (codes ", ")) before s
+
+-- the same where there may be no shape
+abbrev pub shaped_at : ℕ → Option Shape → List ℕ → FoundWords
+shaped_at depth o s = o >>= λ a. words_at depth a s
+
+abbrev pub all_shaped : ℕ → Option Shapes → List ℕ → List ℕ → FoundWords
+all_shaped depth o before s = o >>= λ a. all_words_at depth a before s
+
+abbrev pub times_shaped : ℕ → ℕ → Option Shape → List ℕ → List ℕ → FoundWords
+times_shaped depth n o before s = o >>= λ a. times_at n (words_at depth a) before s
+
+-- the members of a struct in braces
+abbrev pub braced_at : ℕ → Option Shapes → List ℕ → FoundWords
+braced_at depth o s = o >>= λ a. between (codes "{ ") (codes " }") (all_words_at depth a []) s

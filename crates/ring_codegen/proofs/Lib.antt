@@ -8,3 +8,5 @@ pub mod Running
 pub mod Named
 pub mod Simulating
 pub mod Fitting
+pub mod Translated
+pub mod Writing

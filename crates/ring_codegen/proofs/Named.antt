@@ -213,7 +213,7 @@ no_params (l ∷ ls) p = by (no_params ls p) (p (link_trigger l))
     by rest true = refl
     by rest false = rest
 
-bare-protos : (name : List ℕ) (names : List (List ℕ)) (ls : List Link) (ns : List (List ℕ)) → map bare_handler ns ≡ map (c_handler (plain_spec name names ls)) ns
+pub bare-protos : (name : List ℕ) (names : List (List ℕ)) (ls : List Link) (ns : List (List ℕ)) → map bare_handler ns ≡ map (c_handler (plain_spec name names ls)) ns
 bare-protos name names ls [] = refl
 bare-protos name names ls (n ∷ ns) = λ j. record { name = n; params = sym (no_params ls (λ (x : TreeTrigger). pointwise nat_eq x.name n)) j } ∷ bare-protos name names ls ns j
 

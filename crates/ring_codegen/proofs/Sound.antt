@@ -208,7 +208,7 @@ module _ (name : List ℕ) (names hs : List (List ℕ)) (links : List Link) (goo
   weightless [] (l ∷ ls) = sum_by-cons statement_weight (call_tree names l) (call_trees names ls) ∙ ap (λ (k : ℕ). 0 + k) (weightless [] ls)
   weightless (n ∷ ns) ls = sum_by-cons statement_weight (copies n) (map copies ns ++ call_trees names ls) ∙ ap (λ (k : ℕ). 0 + k) (weightless ns ls)
 
-  weight_is : unit_weight_of program ≡ 0
+  pub weight_is : unit_weight_of program ≡ 0
   weight_is = ap (sum_by statement_weight) (statements-are name names hs links) ∙ weightless names links
 
   totals_right : totals_are_right program ≡ true

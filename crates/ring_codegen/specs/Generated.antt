@@ -16,6 +16,7 @@ use Rattle.c99_tree.specs.declared.unit.CStmt.{CStmt}
 use Rattle.c99_tree.specs.declared.unit.CStmt.TheVariants as s
 use Rattle.c99_tree.specs.declared.unit.Unit.{Unit as CUnit}
 use Rattle.ring_codegen.specs.Built.{IsExternNode}
+pub use Rattle.ring_codegen.specs.Translation.{copy_statement}
 
 -- the number of the extern that a node reads
 abbrev pub extern_read : Option Node → ℕ
@@ -41,10 +42,6 @@ bool_var x = record { name = x.name; ty = cty.Scalar c.Bool }
 -- `void h(void);`
 abbrev pub bare_handler : List ℕ → CProto
 bare_handler name = record { name = name; params = [] }
-
--- `cp_c_x = x;`
-abbrev pub copy_statement : ExternItem → CStmt
-copy_statement x = s.Copy x.name
 
 -- `if (cp_c_x) { h(); }`
 abbrev pub call_statement : SpecValue → TriggerItem → CStmt

@@ -3,3 +3,7 @@ pub mod Simulation
 pub mod Built
 pub mod Generated
 pub mod WorkedSpecs
+pub mod Translation
+pub mod TranslationRows
+pub mod ExpressionRows
+pub mod LibraryRows

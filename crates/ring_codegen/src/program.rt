@@ -1,11 +1,13 @@
 // The program of a specification.
-ghost use Rattle.std.specs.Prelude.{◌≤◌, IsTrue, IfOk};
+ghost use Rattle.std.specs.Prelude.{◌≡◌, ◌≤◌, IsTrue, IfOk};
 ghost use Rattle.sm_io.specs.Words.{is_name};
 ghost use Rattle.stream_core.specs.Term.{trees};
 ghost use Rattle.stream_core.specs.WellTyped.{WellTyped};
 ghost use Rattle.stream_core.specs.Soundness.{total_words};
+ghost use Rattle.stream_core.specs.Meaning.{closed_spec};
 ghost use Rattle.ring_codegen.specs.Built.{IsBuilt};
 ghost use Rattle.ring_codegen.specs.Simulation.{Simulates};
+ghost use Rattle.ring_codegen.specs.Translation.{translation};
 
 use crate::declarations::{copies_storage, extern_vars, handler_protos};
 use crate::statements::step_statements;
@@ -14,7 +16,7 @@ use sm_io::{Name, Seq};
 use std::alloc::{AllocError, Global};
 use stream_core::Spec;
 
-/// The program of a specification, under a name.
+/// The program of a specification, under a name: the specification's translation, which does what it means.
 ///
 /// Built so far are specifications of externs of Bool and of triggers without arguments whose guard is an extern. The
 /// specification is well typed, and its externs have at most 262,144 words.
@@ -23,7 +25,8 @@ pub fn generate(alloc: Global, spec: &Spec, name: &Name) -> Result<Unit, AllocEr
     requires typed { WellTyped spec.now }
     requires words { total_words (trees spec.now) ≤ 262144 }
     requires built { IsBuilt spec.now }
-    ensures { IfOk result (λ u. Simulates spec.now name.now u) }
+    ensures unit { IfOk result (λ u. u ≡ translation (closed_spec spec.now) name.now) }
+    ensures simulates { IfOk result (λ u. Simulates spec.now name.now u) }
 {
     Ok(Unit {
         name: name.copy(alloc)?,

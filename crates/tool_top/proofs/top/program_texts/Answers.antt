@@ -10,4 +10,4 @@ pub generate-requires-clause-built : goal.generate-requires-clause-built
 generate-requires-clause-built c = let m = c.requires.means.1 in is_built m.typed.surface _ m.typed.trees_are
 
 pub returns : goal.returns
-returns c = program_of c.texts_spell_one_unit.ensures _ _ _ _ _ c.in_ok-unit.unit c.in_ok-name.ensures c.in_ok-unit.ensures c.make_texts.result c.make_texts.ensures
+returns c = program_of c.texts_spell_one_unit.ensures _ _ _ _ _ c.in_ok-unit.unit c.in_ok-name.ensures c.in_ok-unit.ensures.simulates c.make_texts.result c.make_texts.ensures

@@ -1,0 +1,7 @@
+use Rattle.std.proofs.Common.{◌≡◌, ◌-◌, length}
+use Rattle.c99_read.specs.Front.{after_all, many}
+use Rattle.c99_read.specs.LineAt.{is_field, field_at}
+use Rattle.c99_read.proofs.lines.fields_at.Given as goal
+
+abbrev pub invariant-loop-i : goal.invariant-loop-i
+invariant-loop-i l = many is_field field_at (length l.bytes) l.bytes ≡ after_all l.all (many is_field field_at (length l.bytes - l.i) l.rest)

@@ -1,0 +1,7 @@
+use Rattle.std.proofs.Common.{◌≡◌, ◌-◌, length, codes}
+use Rattle.c99_read.specs.Front.{after_all, many, begins}
+use Rattle.c99_read.specs.LineAt.{ring_lines_at}
+use Rattle.c99_read.proofs.rings.rings_at.Given as goal
+
+abbrev pub invariant-loop-i : goal.invariant-loop-i
+invariant-loop-i l = many (begins (codes "static ")) (ring_lines_at l.types) (length l.bytes) l.bytes ≡ after_all l.all (many (begins (codes "static ")) (ring_lines_at l.types) (length l.bytes - l.i) l.rest)
