@@ -29,7 +29,7 @@ use Rattle.stream_core.proofs.TypedTables.{IsClosedStream, IsClosedLib, IsClosed
 
 -- ---- trees of nodes
 
-abbrev Any : ℕ → Type 0
+abbrev pub Any : ℕ → Type 0
 Any d = Unit {0}
 
 module _ (forms : List TreeLib) (nodes : List Node) (libs : List LibItem) (are : (k : ℕ) (x : LibItem) → slice_get libs k ≡ Some x → IsFormOf forms k x.form) where
@@ -76,7 +76,7 @@ module _ (forms : List TreeLib) (nodes : List Node) (libs : List LibItem) (are :
   to_written zero i = tt
   to_written (suc depth) i = at_written (tree_to nodes libs depth) (to_written depth) (slice_get nodes i)
 
-  tree_written : (i : ℕ) → Good (tree nodes libs i)
+  pub tree_written : (i : ℕ) → Good (tree nodes libs i)
   unfolding tree
   tree_written i = to_written (suc i) i
 

@@ -36,6 +36,7 @@ pub mod ByChildren
 pub mod WorkedTypes
 pub mod Reach
 pub mod GoodNodes
+pub mod PartTypes
 pub mod WholeWeight
 pub mod TypedForms
 pub mod TypedValues

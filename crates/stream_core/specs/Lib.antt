@@ -17,6 +17,7 @@ pub mod TypeOf
 pub mod TypedParts
 pub mod KeptLimits
 pub mod Children
+pub mod PartOf
 pub mod Weights
 pub mod KnownWeights
 pub mod PlainTrees

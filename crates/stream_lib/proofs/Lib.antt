@@ -1,38 +1,20 @@
-pub mod FormSteps
-pub mod KeptSentences
-pub mod OnceSteps
-pub mod HistoricallySteps
-pub mod YesterdaySteps
-pub mod SinceSteps
-pub mod ClockSteps
-pub mod SizeWords
-pub mod BufferLists
-mod Samples
-mod Chains
-mod ReadAgo
-mod OnceWithin
-mod TestBuffers
-mod HistoricallyWithin
-mod SinceChain
-mod SinceWithin
-mod WindowParts
-mod WindowSums
-mod WindowBests
-mod WindowChoices
-mod WindowEnds
-mod WindowExtremes
-pub mod VoteWords
-pub mod OutOfForms
-pub mod OutOfSpecs
-pub mod PlainForms
-pub mod LoweredTypes
-pub mod BufferStreams
+pub mod AddedParts
+pub mod PlacedTrees
+pub mod Nested
+pub mod Distances
+pub mod WindowSamples
+pub mod Operands
+pub mod LoweredNodes
+pub mod FirstBuffers
+pub mod DecimalNames
+pub mod MadeStreams
+pub mod WholeTrees
+pub mod TypedNumbers
+pub mod BufferNames
+pub mod LoweredNames
+pub mod LoweredMentions
 pub mod LoweredParts
-pub mod LoweredValues
-pub mod LoweredTables
-pub mod LoweredSteps
-pub mod LoweredMeaning
-pub mod KeptDeclarations
-pub mod KeptForms
-pub mod LoweredCalls
-pub mod TreesWritten
+pub mod SoundPlain
+pub mod FewItems
+pub mod WorkedFormsTyped
+pub mod WorkedRows

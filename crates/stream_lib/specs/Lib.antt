@@ -1,4 +1,6 @@
-pub mod Buffers
-pub mod ScalarTerms
-pub mod VoteTerms
-pub mod Kept
+pub mod Built
+pub mod Renamed
+pub mod Made
+pub mod PlainSpecs
+pub mod Room
+pub mod WorkedForms

@@ -2,6 +2,7 @@ pub mod WorkedOperators
 pub mod Ranges
 pub mod GrownLists
 pub mod TypeLists
+pub mod PlacedArrays
 pub mod Twins
 pub mod Widths
 pub mod LeafWords

@@ -4,4 +4,5 @@ pub mod IntTy
 pub mod IntTyLaws
 pub mod Types
 pub mod TypeList
+pub mod ArrayPlaces
 pub mod Measures

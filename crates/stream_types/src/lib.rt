@@ -6,6 +6,7 @@
 #![tactic(auto)]
 
 mod arithmetic;
+mod array_key;
 mod bitwise;
 mod comparison;
 mod int_ty;

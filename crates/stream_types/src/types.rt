@@ -1,9 +1,13 @@
 // The list of a specification's types.
-ghost use Rattle.std.specs.Prelude.{◌≡◌, ◌≢◌, ◌↔◌, ℕ, ◌+◌, ◌*◌, ◌<◌, ◌≤◌, [], ◌∷◌, ◌++◌, length, slice_get, sum_by, All, IfOk, IfNone, IfSome, OnOk, OnErr, OnSome, IsTrue, Some, Ok, Err};
+ghost use Rattle.std.specs.Prelude.{◌≡◌, ◌≢◌, ◌↔◌, List, ℕ, ◌+◌, ◌*◌, ◌<◌, ◌≤◌, [], ◌∷◌, ◌++◌, length, slice_get, sum_by, All, IfOk, IfNone, IfSome, OnOk, OnErr, OnSome, IsTrue, Some, Ok, Err};
 ghost use Rattle.stream_types.specs.Types.{words, words_of, size, leaves, fields_words, entry_words, entry_bytes, at_fields, at_entry, one_word, scalar_bytes, entry_of, fields_of};
 ghost use Rattle.stream_types.specs.TypeList.{IsTypeList, IsGoodEntry, IsNewEntry, Stands, IsElement, IsNewName, HasTwins, IsNamedAt, IsMember, HasNoMember, IsArrayPlaced};
+ghost use Rattle.stream_types.specs.ArrayPlaces.{ArePlaces};
+ghost use Rattle.stream_types.specs.declared.types.TypeEntry.{TypeEntry as Entry};
 
+use crate::array_key::ArrayKey;
 use crate::scalar::{Scalar, Ty};
+use indexmap::IndexMap;
 use sm_io::{Name, Seq};
 use std::alloc::{AllocError, Global};
 use std::marker::Model;
@@ -65,16 +69,6 @@ fn copy_of_fields(alloc: Global, fields: &[Field]) -> Result<Vec<Field>, AllocEr
 }
 
 impl TypeEntry {
-    // Whether it is an array of this element and length.
-    fn is_array(&self, elem: Ty, n: u32) -> bool
-        ensures { IsTrue result ↔ (self.now ≡ TypeEntry.Array elem n) }
-    {
-        match self {
-            TypeEntry::Array { elem: of, n: count } => *of == elem && *count == n,
-            TypeEntry::Struct { .. } => false,
-        }
-    }
-
     fn copy(&self, alloc: Global) -> Result<TypeEntry, AllocError>
         ensures { IfOk result (λ entry. entry ≡ self.now) }
     {
@@ -150,10 +144,28 @@ impl Measured {
     }
 }
 
+// Notes the place of an entry that is put at the end of a list, if it is an array.
+fn note_place(
+    places: &mut IndexMap<ArrayKey, u32>,
+    entry: &TypeEntry,
+    place: u32,
+) -> Result<(), AllocError>
+    ensures ok { (types : List Entry) → ArePlaces places.old.entries types → IsNewEntry types entry.now → place ≡ length types → OnOk result (ArePlaces places.new.entries (types ++ entry.now ∷ [])) }
+    ensures err { OnErr result (places.new.entries ≡ places.old.entries) }
+{
+    if let TypeEntry::Array { elem, n } = entry {
+        let key = ArrayKey { elem: *elem, n: *n };
+        places.insert(key, place)?;
+    }
+    Ok(())
+}
+
 /// The list of a specification's types, each made of those before it.
 #[derive(Debug, Drop)]
 pub struct Types {
     entries: Vec<Measured>,
+    // the place of each array type among the entries
+    places: IndexMap<ArrayKey, u32>,
 }
 
 impl Model for Types {
@@ -163,10 +175,11 @@ impl Model for Types {
     ghost Value = { List TypeEntry };
 
     ghost use Rattle.stream_types.specs.Measures.{IsKept, entries_of};
+    ghost use Rattle.stream_types.specs.ArrayPlaces.{ArePlaces};
 
     ghost view = { λ t. entries_of t.entries.items };
 
-    ghost invariant = { λ t. IsKept t.entries.items };
+    ghost invariant = { λ t. IsKept t.entries.items × ArePlaces t.places.entries (entries_of t.entries.items) };
 }
 
 impl Types {
@@ -176,6 +189,7 @@ impl Types {
     {
         Types {
             entries: Vec::new(alloc),
+            places: IndexMap::new(alloc),
         }
     }
 
@@ -292,12 +306,7 @@ impl Types {
         ensures none { IfNone result (IsNewEntry self.now (TypeEntry.Array elem n)) }
         ensures list { IsTypeList self.now }
     {
-        for (i, kept) in self.entries.iter().enumerate() {
-            if kept.entry.is_array(elem, n) {
-                return Some(i as u32);
-            }
-        }
-        None
+        self.places.get(&ArrayKey { elem, n }).copied()
     }
 
     // Adds an entry of which it is known that it may stand at the end.
@@ -311,6 +320,9 @@ impl Types {
         ensures ok { OnOk result (self.new ≡ self.old ++ entry ∷ []) }
         ensures err { OnErr result (self.new ≡ self.old) }
     {
+        let place = self.len();
+        self.entries.reserve(1)?;
+        note_place(&mut self.places, &entry, place)?;
         self.entries.push(Measured { entry, extent })?;
         Ok(())
     }
@@ -384,9 +396,11 @@ impl Types {
         ensures { IfOk result (λ types. types ≡ self.now) }
     {
         let mut entries = Vec::new(alloc);
-        for kept in &self.entries {
+        let mut places = IndexMap::new(alloc);
+        for (i, kept) in self.entries.iter().enumerate() {
+            note_place(&mut places, &kept.entry, i as u32)?;
             entries.push(kept.copy(alloc)?)?;
         }
-        Ok(Types { entries })
+        Ok(Types { entries, places })
     }
 }

@@ -1,0 +1,4 @@
+pub mod Buffers
+pub mod ScalarTerms
+pub mod VoteTerms
+pub mod Kept

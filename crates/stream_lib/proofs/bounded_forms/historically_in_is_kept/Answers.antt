@@ -1,5 +1,0 @@
-use Rattle.stream_lib.proofs.HistoricallyWithin.{historically_in_kept}
-use Rattle.stream_lib.proofs.bounded_forms.historically_in_is_kept.Goals as goal
-
-pub returns : goal.returns
-returns c = λ low high good. historically_in_kept low high good.0

@@ -1,5 +1,0 @@
-use Rattle.stream_lib.proofs.OnceWithin.{once_in_kept}
-use Rattle.stream_lib.proofs.bounded_forms.once_in_is_kept.Goals as goal
-
-pub returns : goal.returns
-returns c = λ low high good. once_in_kept low high good.0

@@ -1,5 +1,0 @@
-use Rattle.stream_lib.proofs.ClockSteps.{clock_kept}
-use Rattle.stream_lib.proofs.simple_forms.clock_is_kept.Goals as goal
-
-pub returns : goal.returns
-returns c = λ period phase good. clock_kept period phase good

@@ -1,5 +1,0 @@
-use Rattle.stream_lib.proofs.SizeWords.{sign_kept}
-use Rattle.stream_lib.proofs.sizes.sign_is_kept.Goals as goal
-
-pub returns : goal.returns
-returns c = λ m s e i has. sign_kept m s e i has

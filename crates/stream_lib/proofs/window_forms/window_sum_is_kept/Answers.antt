@@ -1,5 +1,0 @@
-use Rattle.stream_lib.proofs.WindowSums.{sum_is_kept}
-use Rattle.stream_lib.proofs.window_forms.window_sum_is_kept.Goals as goal
-
-pub returns : goal.returns
-returns c = sum_is_kept
