@@ -1,8 +1,8 @@
 //! Library forms as streams.
-//! In: a specification with forms of the library. Out (to come): one without them, over buffers. What stands: the laws
-//! that each form over its buffers has the value of its sentence over all earlier steps, and that a lowered specification
-//! is plain and typed, and has the steps of the specification.
-//! specs/Buffers.antt defines what the buffers hold; the lowering itself is stream_core's specs/Lower.antt.
+//! The laws that each form over its buffers has the value of its sentence over all earlier steps, and that a lowered
+//! specification is plain and typed, and has the steps of the specification.
+//! specs/Buffers.antt defines what the buffers hold; the lowering is defined in stream_core's specs/Lower.antt, and
+//! answered in `stream_lib`.
 #![tactic(auto)]
 
 mod bounded_forms;

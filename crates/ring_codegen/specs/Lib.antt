@@ -7,3 +7,5 @@ pub mod Translation
 pub mod TranslationRows
 pub mod ExpressionRows
 pub mod LibraryRows
+pub mod Carried
+pub mod Standing

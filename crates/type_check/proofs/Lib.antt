@@ -1,0 +1,36 @@
+pub mod SameNames
+pub mod Redeclarations
+pub mod Meaning
+pub mod Reasons
+pub mod Nodes
+pub mod Answered
+pub mod Meeting
+pub mod Tables
+pub mod Forms
+pub mod Members
+pub mod Widths
+pub mod Declared
+pub mod FirstSent
+pub mod Walking
+pub mod Passing
+pub mod Distinct
+pub mod Texts
+pub mod Numbering
+pub mod Fielding
+pub mod SoundTypes
+pub mod SoundNodes
+pub mod SoundForms
+pub mod Placing
+pub mod SoundExprs
+pub mod Behind
+pub mod SoundTexts
+pub mod SoundDecls
+pub mod TextEvents
+pub mod GoodStructs
+pub mod Numbered
+pub mod ListedTypes
+pub mod ListedMore
+pub mod TypeLists
+pub mod Adding
+mod Placeless
+mod PlacelessTexts

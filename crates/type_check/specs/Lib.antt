@@ -1,0 +1,12 @@
+pub mod Names
+pub mod Seen
+pub mod NamedType
+pub mod Judged
+pub mod Untyped
+pub mod TypeOrder
+pub mod Standing
+pub mod Table
+pub mod Walked
+pub mod Checked
+pub mod NextEntries
+pub mod Listed

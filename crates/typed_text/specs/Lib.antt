@@ -1,0 +1,2 @@
+pub mod ReadSpec
+pub mod InExpressions
