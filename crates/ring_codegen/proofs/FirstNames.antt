@@ -11,7 +11,6 @@ use Rattle.stream_core.specs.Handlers.{handlers_after}
 use Rattle.stream_core.specs.Meaning.{handlers}
 use Rattle.stream_core.specs.Value.{SpecValue}
 use Rattle.c99_tree.specs.declared.types.CProto.{CProto}
-use Rattle.ring_codegen.specs.Generated.{bare_handler}
 
 abbrev pub with_name : List (List ℕ) → List ℕ → List (List ℕ)
 with_name seen name = if list_any (pointwise nat_eq name) seen then seen else seen ++ name ∷ []
@@ -44,8 +43,8 @@ next_names seen xs i x h is =
     ∙ ap (λ (y : TriggerItem). names_from (with_name seen y.name) (drop (i + 1) xs)) (sym is)
 
 -- what the loop keeps: the prototypes of the names so far, and which names there will be
-pub record Listed (xs : List TriggerItem) (i : ℕ) (seen : List (List ℕ)) (protos : List CProto) : Type 0 where
-  pub listed : protos ≡ map bare_handler seen
+pub record Listed (proto : List ℕ → CProto) (xs : List TriggerItem) (i : ℕ) (seen : List (List ℕ)) (protos : List CProto) : Type 0 where
+  pub listed : protos ≡ map proto seen
   pub ahead : names_from seen (drop i xs) ≡ names_from [] xs
 
 -- the names after a name that is new, or one that is there already
@@ -55,29 +54,30 @@ new_name seen name b is new = ap (λ (t : Bool). if t then seen else seen ++ nam
 old_name : (seen : List (List ℕ)) (name : List ℕ) (b : Bool) → b ≡ not (list_any (pointwise nat_eq name) seen) → b ≡ false → with_name seen name ≡ seen
 old_name seen name b is old = ap (λ (t : Bool). if t then seen else seen ++ name ∷ []) (not-false (list_any (pointwise nat_eq name) seen) (sym is ∙ old))
 
-protos-more : (seen : List (List ℕ)) (name : List ℕ) → map bare_handler seen ++ bare_handler name ∷ [] ≡ map bare_handler (seen ++ name ∷ [])
-protos-more [] name = refl
-protos-more (x ∷ seen) name = ap (λ (r : List CProto). bare_handler x ∷ r) (protos-more seen name)
+protos-more : (proto : List ℕ → CProto) (seen : List (List ℕ)) (name : List ℕ) → map proto seen ++ proto name ∷ [] ≡ map proto (seen ++ name ∷ [])
+protos-more proto [] name = refl
+protos-more proto (x ∷ seen) name = ap (λ (r : List CProto). proto x ∷ r) (protos-more proto seen name)
 
-pub listed_new : (xs : List TriggerItem) (i : ℕ) (seen seen' : List (List ℕ)) (protos protos' : List CProto) (x : TriggerItem) (name : List ℕ) (b : Bool) → Listed xs i seen protos → i < length xs → x ≡ get_or xs i x → name ≡ x.name
-    → b ≡ not (list_any (pointwise nat_eq name) seen) → b ≡ true → seen' ≡ with_name seen name → protos' ≡ protos ++ bare_handler x.name ∷ [] → Listed xs (i + 1) seen' protos'
-listed_new xs i seen seen' protos protos' x name b inv h is named added new keys pushed = record {
-  listed = pushed ∙ ap (λ (r : List CProto). r ++ bare_handler x.name ∷ []) inv.listed ∙ ap (λ (n : List ℕ). map bare_handler seen ++ bare_handler n ∷ []) (sym named) ∙ protos-more seen name ∙ ap (map bare_handler) (sym (keys ∙ new_name seen name b added new));
-  ahead = ap (λ (ns : List (List ℕ)). names_from ns (drop (i + 1) xs)) (keys ∙ ap (with_name seen) named) ∙ sym (next_names seen xs i x h is) ∙ inv.ahead;
-}
+module _ (proto : List ℕ → CProto) where
+  pub listed_new : (xs : List TriggerItem) (i : ℕ) (seen seen' : List (List ℕ)) (protos protos' : List CProto) (x : TriggerItem) (name : List ℕ) (b : Bool) → Listed proto xs i seen protos → i < length xs → x ≡ get_or xs i x → name ≡ x.name
+      → b ≡ not (list_any (pointwise nat_eq name) seen) → b ≡ true → seen' ≡ with_name seen name → protos' ≡ protos ++ proto x.name ∷ [] → Listed proto xs (i + 1) seen' protos'
+  listed_new xs i seen seen' protos protos' x name b inv h is named added new keys pushed = record {
+    listed = pushed ∙ ap (λ (r : List CProto). r ++ proto x.name ∷ []) inv.listed ∙ ap (λ (n : List ℕ). map proto seen ++ proto n ∷ []) (sym named) ∙ protos-more proto seen name ∙ ap (map proto) (sym (keys ∙ new_name seen name b added new));
+    ahead = ap (λ (ns : List (List ℕ)). names_from ns (drop (i + 1) xs)) (keys ∙ ap (with_name seen) named) ∙ sym (next_names seen xs i x h is) ∙ inv.ahead;
+  }
 
-pub listed_old : (xs : List TriggerItem) (i : ℕ) (seen seen' : List (List ℕ)) (protos protos' : List CProto) (x : TriggerItem) (name : List ℕ) (b : Bool) → Listed xs i seen protos → i < length xs → x ≡ get_or xs i x → name ≡ x.name
-    → b ≡ not (list_any (pointwise nat_eq name) seen) → b ≡ false → seen' ≡ with_name seen name → protos' ≡ protos → Listed xs (i + 1) seen' protos'
-listed_old xs i seen seen' protos protos' x name b inv h is named added old keys same = record {
-  listed = same ∙ inv.listed ∙ ap (map bare_handler) (sym (keys ∙ old_name seen name b added old));
-  ahead = ap (λ (ns : List (List ℕ)). names_from ns (drop (i + 1) xs)) (keys ∙ ap (with_name seen) named) ∙ sym (next_names seen xs i x h is) ∙ inv.ahead;
-}
+  pub listed_old : (xs : List TriggerItem) (i : ℕ) (seen seen' : List (List ℕ)) (protos protos' : List CProto) (x : TriggerItem) (name : List ℕ) (b : Bool) → Listed proto xs i seen protos → i < length xs → x ≡ get_or xs i x → name ≡ x.name
+      → b ≡ not (list_any (pointwise nat_eq name) seen) → b ≡ false → seen' ≡ with_name seen name → protos' ≡ protos → Listed proto xs (i + 1) seen' protos'
+  listed_old xs i seen seen' protos protos' x name b inv h is named added old keys same = record {
+    listed = same ∙ inv.listed ∙ ap (map proto) (sym (keys ∙ old_name seen name b added old));
+    ahead = ap (λ (ns : List (List ℕ)). names_from ns (drop (i + 1) xs)) (keys ∙ ap (with_name seen) named) ∙ sym (next_names seen xs i x h is) ∙ inv.ahead;
+  }
 
--- before the loop
-pub listed_none : (xs : List TriggerItem) (seen : List (List ℕ)) (protos : List CProto) → seen ≡ [] → protos ≡ [] → Listed xs 0 seen protos
-listed_none xs seen protos none_seen none = record { listed = none ∙ ap (map bare_handler) (sym none_seen); ahead = ap (λ (ns : List (List ℕ)). names_from ns xs) none_seen }
+  -- before the loop
+  pub listed_none : (xs : List TriggerItem) (seen : List (List ℕ)) (protos : List CProto) → seen ≡ [] → protos ≡ [] → Listed proto xs 0 seen protos
+  listed_none xs seen protos none_seen none = record { listed = none ∙ ap (map proto) (sym none_seen); ahead = ap (λ (ns : List (List ℕ)). names_from ns xs) none_seen }
 
--- and behind it
-pub listed_all : (s : SpecValue) (xs : List TriggerItem) (i : ℕ) (seen : List (List ℕ)) (protos : List CProto) → Listed xs i seen protos → length xs ≤ i → xs ≡ s.triggers → protos ≡ map bare_handler (handlers s)
-listed_all s xs i seen protos inv past is =
-    inv.listed ∙ ap (map bare_handler) (ap (names_from seen) (sym (drop_of_length-le xs past)) ∙ inv.ahead ∙ ap (names_from []) is ∙ sym (handlers-names s))
+  -- and behind it
+  pub listed_all : (s : SpecValue) (xs : List TriggerItem) (i : ℕ) (seen : List (List ℕ)) (protos : List CProto) → Listed proto xs i seen protos → length xs ≤ i → xs ≡ s.triggers → protos ≡ map proto (handlers s)
+  listed_all s xs i seen protos inv past is =
+      inv.listed ∙ ap (map proto) (ap (names_from seen) (sym (drop_of_length-le xs past)) ∙ inv.ahead ∙ ap (names_from []) is ∙ sym (handlers-names s))

@@ -18,16 +18,14 @@ use Rattle.stream_core.specs.Value.{SpecValue}
 use Rattle.stream_core.specs.declared.spec.Item.{Item}
 use Rattle.stream_core.specs.Ordered.{all_parts}
 use Rattle.stream_core.specs.Stored.{IsPlaced, HasRoom}
-use Rattle.stream_core.specs.Term.{Term, TreeTrigger, tree, tree_root, trees}
+use Rattle.stream_core.specs.declared.spec.LibItem.{LibItem}
+use Rattle.stream_core.specs.Term.{Term, TreeTrigger, build_at, extern, tree, tree_root, tree_to, trees}
 use Rattle.stream_core.specs.Signature.{signature_of}
 use Rattle.stream_core.specs.WellTyped.{bool, HasType, IsGoodTrigger, HasGoodNames, WellTyped, declared_names, argument_types}
-use Rattle.stream_core.specs.Soundness.{total_words}
 use Rattle.c99_tree.specs.Words.{is_same}
 use Rattle.c99_tree.specs.WellFormed.{are_distinct}
-use Rattle.ring_codegen.specs.Built.{IsBuiltTrigger, IsBuilt, bool_item}
-use Rattle.ring_codegen.specs.WorkedSpecs.{Bare, bare, bare_trigger, bare_spec, empty, door, doors}
+use Rattle.ring_codegen.specs.WorkedSpecs.{Bare, bare, bare_trigger, bare_spec, bool_item, empty, door, doors}
 use Rattle.ring_codegen.proofs.Listing.{by_place, at_any, Once}
-use Rattle.ring_codegen.proofs.Named.{expr-is, words-are}
 use Rattle.sm_io.proofs.Elements.{all_by_place, get_within}
 
 -- a trigger has a name that no extern has, and a node for its guard
@@ -85,6 +83,10 @@ no_parts : (reads : List ℕ) (i m : ℕ) (n : Node) → slice_get (map node.Ext
 no_parts [] i m n e = absurd (cc e)
 no_parts (k ∷ reads) zero m n e = let s : node.Extern k ≡ n = cc e in subst (λ (v : Node). AllByRecursion (λ j. j < m) (all_parts [] v)) s tt
 no_parts (k ∷ reads) (suc i) m n e = no_parts reads i m n e
+
+expr-is : (nodes : List Node) (libs : List LibItem) (i k : ℕ) → slice_get nodes i ≡ Some (node.Extern k) → tree nodes libs i ≡ extern k
+unfolding tree
+expr-is nodes libs i k e = ap (build_at libs (tree_to nodes libs i)) e
 
 -- the number of the extern that a node reads
 node_reads : (reads : List ℕ) (i : ℕ) → i < length reads → (k : ℕ) × (slice_get reads i ≡ Some k) × (slice_get (map node.Extern reads) i ≡ Some (node.Extern k))
@@ -193,54 +195,29 @@ module _ (name : List ℕ) (names : List (List ℕ)) (reads : List ℕ) (trigger
     names = names_fit;
   }
 
-  all_bool : (ns : List (List ℕ)) → AllByRecursion (λ (x : ExternItem). x.ty ≡ bool) (map bool_item ns)
-  all_bool [] = tt
-  all_bool (n ∷ ns) = (refl, all_bool ns)
-
-  is_built : IsBuilt spec
-  is_built = record {
-    types = refl;
-    externs = all_by_place (λ (x : ExternItem). x.ty ≡ bool) (map bool_item names) (all_bool names);
-    streams = refl;
-    defs = refl;
-    triggers = all_by_place (IsBuiltTrigger spec.nodes) (map bare_trigger triggers)
-        (each_map (λ x. is_fit names (length reads) x ≡ true) (IsBuiltTrigger spec.nodes) bare_trigger
-        (λ x h. let node = node_reads reads x.guard (fit_trigger names (length reads) x h).there in record { guard = (node.0, node.2); args = refl }) triggers f.fit);
-    observers = refl;
-    libs = refl;
-  }
-
--- what `generate` asks of a specification
+-- what `sound` and `generate` ask of a specification and a name
 pub record Asked (s : SpecValue) (name : List ℕ) : Type 0 where
   pub named : IsTrue (is_name name)
   pub typed : WellTyped s
-  pub words : total_words (trees s) ≤ 262144
-  pub built : IsBuilt s
 
-asked : (name : List ℕ) (names : List (List ℕ)) (reads : List ℕ) (triggers : List Bare) → are_fit name names reads triggers ≡ true → nat_le (length names) 262144 ≡ true → Asked (bare_spec name names reads triggers) name
-asked name names reads triggers h few =
+asked : (name : List ℕ) (names : List (List ℕ)) (reads : List ℕ) (triggers : List Bare) → are_fit name names reads triggers ≡ true → Asked (bare_spec name names reads triggers) name
+asked name names reads triggers h =
     let f = fits name names reads triggers h in
-    let built = is_built name names reads triggers f in
-    let words : total_words (trees (bare_spec name names reads triggers)) ≡ length names = words-are (bare_spec name names reads triggers) built ∙ ap length (names-of names) in
-    let b = leb-true (length names) 262144 few in
-    record { named = f.name_is; typed = well_typed name names reads triggers f; words = omega (arith, words, b); built = built }
+    record { named = f.name_is; typed = well_typed name names reads triggers f }
 
 -- ---- those of the tests
 
 pub empty_asked : Asked empty (codes "a")
 unfolding reserved limit_fronts limit_ends
-empty_asked = asked (codes "a") [] [] [] refl refl
+empty_asked = asked (codes "a") [] [] [] refl
 
 pub door_asked : Asked door (codes "door")
 unfolding reserved limit_fronts limit_ends
-door_asked = asked (codes "door") (codes "ajar" ∷ []) (0 ∷ []) (bare (codes "chime") 0 49 ∷ []) refl refl
+door_asked = asked (codes "door") (codes "ajar" ∷ []) (0 ∷ []) (bare (codes "chime") 0 49 ∷ []) refl
 
 pub doors_asked : Asked doors (codes "door")
 unfolding reserved limit_fronts limit_ends
-doors_asked = asked (codes "door") (codes "ajar" ∷ []) (0 ∷ []) (bare (codes "chime") 0 49 ∷ bare (codes "chime") 0 72 ∷ []) refl refl
-
-pub asked_by : (s v : SpecValue) (name n : List ℕ) → s ≡ v → name ≡ n → Asked v n → Asked s name
-asked_by s v name n e f a = subst (λ (t : SpecValue). Asked t name) (sym e) (subst (Asked v) (sym f) a)
+doors_asked = asked (codes "door") (codes "ajar" ∷ []) (0 ∷ []) (bare (codes "chime") 0 49 ∷ bare (codes "chime") 0 72 ∷ []) refl
 
 -- ---- how they are built
 

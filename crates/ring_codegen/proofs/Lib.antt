@@ -1,15 +1,6 @@
 pub mod FirstNames
 pub mod Listing
-pub mod Plain
-pub mod Sound
-pub mod Stepping
-pub mod Firing
-pub mod Running
-pub mod Named
-pub mod Simulating
-pub mod Fitting
 pub mod Translated
-pub mod Writing
 pub mod WordNumbers
 pub mod Worded
 pub mod Evaluated
@@ -47,3 +38,9 @@ pub mod StillPlain
 pub mod UnitTotals
 pub mod UnitNames
 pub mod UnitSound
+pub mod ItemTrees
+pub mod SoundItems
+pub mod NamedNodes
+pub mod FormsOfNodes
+pub mod SoundUnits
+pub mod Fitting

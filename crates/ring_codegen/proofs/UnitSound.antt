@@ -99,7 +99,7 @@ declared-names spec (x ∷ xs) hs = ap (λ (r : List (List ℕ)). x.name ∷ r) 
 -- ---- a program of a specification that has steps and good parts
 
 module _ (spec : TreeSpec) (u : CUnit) (has : HasSteps spec) (is : IsProgramOf spec u) (named : HasGoodParts spec) where
-  stands : (a : Term) (t : Ty) → IsTranslated spec a t → Stands spec.types t
+  pub stands : (a : Term) (t : Ty) → IsTranslated spec a t → Stands spec.types t
   stands a t h = type_stands spec has.translatable.types has.translatable.standing has.translatable.long a t h.typed h.plain h.written
 
   params_pass : (p : CTy → Bool) → ((t : Ty) → Stands spec.types t → p (c_type spec.types t) ≡ true) → (name : List ℕ) → IsOfTrigger spec.triggers name → list_all p (c_handler spec name).params ≡ true
@@ -200,13 +200,13 @@ module _ (s : SpecValue) (name : List ℕ) (name_is : IsTrue (is_name name)) (w 
     abbrev u : CUnit
     u = translation spec name
 
-    has : HasSteps spec
+    pub has : HasSteps spec
     has = has_steps s w plain none
 
-    is : IsProgramOf spec u
+    pub is : IsProgramOf spec u
     is = program_is spec name
 
-    keeps : KeepsLimits spec
+    pub keeps : KeepsLimits spec
     keeps = subst KeepsLimits (plain_form-is (trees s) plain) kept
 
     abbrev out : Term → Term
@@ -246,7 +246,7 @@ module _ (s : SpecValue) (name : List ℕ) (name_is : IsTrue (is_name name)) (w 
         subst (λ (n : List ℕ). IsTrue (is_ring_name n)) (ap (λ (y : TreeStream). y.name) b.is ∙ ap (λ (y : TreeStream). y.name) a.is)
         (all_at (λ (y : StreamItem). IsTrue (is_ring_name y.name)) s.streams k b.origin rings b.there)
 
-    good : HasGoodParts spec
+    pub good : HasGoodParts spec
     good = record {
       names = w.names.types;
       externs = w.names.externs;
@@ -304,7 +304,7 @@ module _ (s : SpecValue) (name : List ℕ) (name_is : IsTrue (is_name name)) (w 
         let all = rings_in_range spec u has is good in
         λ j. arrays j && all j
 
-    types_right : types_come_first u ≡ true
+    pub types_right : types_come_first u ≡ true
     types_right =
         let built = in_order s.types w.types w.names.types in
         let vars = externs_defined spec u has is good in
@@ -349,7 +349,7 @@ module _ (s : SpecValue) (name : List ℕ) (name_is : IsTrue (is_name name)) (w 
         let g = all_at (IsGoodStream (signature_of (trees s))) (trees s).streams k x w.streams e in
         record { stands = g.stands; some = g.initial.some; most = g.initial.most; initial = g.initial.values })
 
-    small_storage : storage_of u ≤ 2147483647
+    pub small_storage : storage_of u ≤ 2147483647
     small_storage =
         let a = storage_kept s w plain none name in
         let b = ap storage_of_plain (spec_still (trees s) plain) in

@@ -1,7 +1,6 @@
 pub mod CTypes
 pub mod Simulation
-pub mod Built
-pub mod Generated
+pub mod Items
 pub mod WorkedSpecs
 pub mod Translation
 pub mod TranslationRows

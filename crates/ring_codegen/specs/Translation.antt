@@ -217,8 +217,9 @@ translated_step spec =
 abbrev pub with_totals : CUnit → CUnit
 with_totals unit = record unit { storage = storage_of unit; need = unit_weight_of unit }
 
-abbrev pub translation : TreeSpec → List ℕ → CUnit
-translation spec name = with_totals (record {
+-- the program with zeros in place of its totals
+abbrev pub without_totals : TreeSpec → List ℕ → CUnit
+without_totals spec name = record {
   name = name;
   types = map (c_def spec.types) spec.types;
   storage = 0;
@@ -227,4 +228,7 @@ translation spec name = with_totals (record {
   handlers = c_handlers spec;
   rings = map (ring_of spec.types) spec.streams;
   step = translated_step spec;
-})
+}
+
+abbrev pub translation : TreeSpec → List ℕ → CUnit
+translation spec name = with_totals (without_totals spec name)

@@ -4,9 +4,13 @@ use Rattle.std.specs.Prelude.{ℕ, List, [], ◌∷◌, map, codes}
 use Rattle.stream_types.specs.declared.scalar.Scalar.TheVariants as scalar
 use Rattle.stream_types.specs.declared.scalar.Ty.TheVariants as ty
 use Rattle.stream_core.specs.declared.node.Node.TheVariants as node
+use Rattle.stream_core.specs.declared.spec.ExternItem.{ExternItem}
 use Rattle.stream_core.specs.declared.spec.TriggerItem.{TriggerItem}
 use Rattle.stream_core.specs.Value.{SpecValue}
-use Rattle.ring_codegen.specs.Built.{bool_item}
+
+-- an extern of Bool, by its name
+abbrev pub bool_item : List ℕ → ExternItem
+bool_item name = record { name = name; ty = ty.Scalar scalar.Bool }
 
 -- a trigger by its name, the node of its guard, and the place of that in the text
 pub record Bare : Type 0 where

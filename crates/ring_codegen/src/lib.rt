@@ -1,16 +1,21 @@
-//! From a specification of streams to a program of the C subset.
-//! In: a typed specification of Bool externs, and of triggers without arguments whose guard is an extern
-//! (specs/Built.antt). Out: a program that makes the same calls at every step.
+//! From a plain specification of streams to a program of the C subset.
+//! In: a `Plain` of `stream_lib` and a name. Out: a program that makes the specification's calls at every step.
 //! specs/Simulation.antt defines what the program has to do, specs/CTypes.antt its C types, and specs/Translation.antt which
-//! program is written, for the whole plain language; the call is `generate`. The laws say that the translation of every plain
-//! specification is well formed and does what the specification means.
+//! program is written; the call is `generate`. The laws say that the translation of every plain specification is well formed
+//! and does what the specification means.
 #![tactic(auto)]
 
+mod c_types;
 mod declarations;
 mod expression_laws;
+mod expressions;
+mod forms;
 mod laws;
+mod names;
 mod operator_laws;
+mod operators;
 mod program;
+mod rings;
 mod run_laws;
 mod statements;
 mod step_laws;

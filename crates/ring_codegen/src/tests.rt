@@ -1,15 +1,18 @@
 // Worked specifications, and the programs that they give.
 ghost use Rattle.std.specs.Prelude.{◌≡◌, IfOk};
 ghost use Rattle.sm_io.specs.Names.{IsNameBytes};
-ghost use Rattle.ring_codegen.specs.Built.{bool_item};
-ghost use Rattle.ring_codegen.specs.WorkedSpecs.{bare, bare_trigger, empty, door, doors};
+ghost use Rattle.stream_core.specs.WellTyped.{WellTyped};
+ghost use Rattle.ring_codegen.specs.WorkedSpecs.{bare, bare_trigger, bool_item, empty, door, doors};
 
 use crate::generate;
 use c99_tree::{CExpr, CProto, CScalar, CStmt, CTy, CVar, Unit};
+use recursion_check::sound;
 use sm_io::{Name, Seq};
 use std::alloc::{AllocError, Global};
+use std::process::Abort;
 use std::test::Fail;
 use stream_core::{ExternItem, Item, Node, NodeId, Root, Spec, TriggerItem};
+use stream_lib::{Plain, lower};
 use stream_types::{Scalar, Ty, Types};
 
 const BOOL: Ty = Ty::Scalar(Scalar::Bool);
@@ -72,6 +75,16 @@ fn doors_spec(alloc: Global) -> Result<Spec, AllocError>
     Ok(spec)
 }
 
+// The specification without library forms, of which it has none.
+fn plain(rt: &impl Abort, alloc: Global, spec: Spec) -> Result<Plain, AllocError>
+    requires { WellTyped spec }
+{
+    let Ok(checked) = sound(alloc, spec) else {
+        panic!(rt; "a sound specification");
+    };
+    lower(alloc, &checked)
+}
+
 // The unit has this name and storage, meets no operator, and has no types and rings.
 fn is_small(unit: &Unit, name: &[u8], storage: u32) -> bool {
     unit.name.bytes() == name
@@ -114,7 +127,11 @@ fn is_call(statement: &CStmt, h: &[u8], x: &[u8]) -> bool {
 #[test]
 fn nothing_is_sampled_and_called(rt: HostRuntime) -> Result<(), Fail> {
     let alloc = rt.alloc();
-    let unit = generate(alloc, &empty_spec(alloc)?, &name(alloc, "a")?)?;
+    let unit = generate(
+        alloc,
+        &plain(&rt, alloc, empty_spec(alloc)?)?,
+        &name(alloc, "a")?,
+    )?;
     assert!(rt; is_small(&unit, b"a", 0));
     assert!(rt; unit.externs.as_slice().is_empty());
     assert!(rt; unit.handlers.as_slice().is_empty());
@@ -125,7 +142,11 @@ fn nothing_is_sampled_and_called(rt: HostRuntime) -> Result<(), Fail> {
 #[test]
 fn a_door_chimes(rt: HostRuntime) -> Result<(), Fail> {
     let alloc = rt.alloc();
-    let unit = generate(alloc, &door_spec(alloc)?, &name(alloc, "door")?)?;
+    let unit = generate(
+        alloc,
+        &plain(&rt, alloc, door_spec(alloc)?)?,
+        &name(alloc, "door")?,
+    )?;
     assert!(rt; is_small(&unit, b"door", 1));
     assert!(rt; matches!(unit.externs.as_slice(), [x] if is_bool(x, b"ajar")));
     assert!(rt; matches!(unit.handlers.as_slice(), [h] if is_bare(h, b"chime")));
@@ -139,7 +160,11 @@ fn a_door_chimes(rt: HostRuntime) -> Result<(), Fail> {
 #[test]
 fn a_door_chimes_twice(rt: HostRuntime) -> Result<(), Fail> {
     let alloc = rt.alloc();
-    let unit = generate(alloc, &doors_spec(alloc)?, &name(alloc, "door")?)?;
+    let unit = generate(
+        alloc,
+        &plain(&rt, alloc, doors_spec(alloc)?)?,
+        &name(alloc, "door")?,
+    )?;
     assert!(rt; is_small(&unit, b"door", 1));
     assert!(rt; matches!(unit.handlers.as_slice(), [h] if is_bare(h, b"chime")));
     assert!(rt;

@@ -1,14 +1,9 @@
 // The program of a translation is well formed, and so does what the specification means. Each function is a law, and does
 // nothing.
-ghost use Rattle.std.specs.Prelude.{◌≡◌, ℕ, ◌≤◌, ◌<◌, ◌^◌, List, [], decimal, All, IsTrue};
+ghost use Rattle.std.specs.Prelude.{ℕ, ◌≤◌, ◌<◌, ◌^◌, List, decimal, IsTrue};
 ghost use Rattle.sm_io.specs.Words.{is_name};
-ghost use Rattle.stream_core.specs.declared.spec.StreamItem.{StreamItem};
 ghost use Rattle.stream_core.specs.Value.{SpecValue};
-ghost use Rattle.stream_core.specs.Term.{trees};
-ghost use Rattle.stream_core.specs.WellTyped.{WellTyped};
-ghost use Rattle.stream_core.specs.Plain.{IsPlainSpec};
-ghost use Rattle.stream_core.specs.Soundness.{HasNoCycle};
-ghost use Rattle.stream_core.specs.KeptLimits.{KeepsLimits, plain_form};
+ghost use Rattle.stream_lib.specs.PlainSpecs.{IsSoundPlain};
 ghost use Rattle.stream_core.specs.Meaning.{closed_spec};
 ghost use Rattle.c99_tree.specs.Words.{is_ring_name};
 ghost use Rattle.c99_tree.specs.WellFormed.{IsWellFormed};
@@ -21,17 +16,12 @@ pub fn names_and_numbers_name_rings()
     ensures number { (n : ℕ) → 1 ≤ n → n < 2 ^ 64 → IsTrue (is_ring_name (decimal n)) }
 {}
 
-/// The translation of a plain specification that is well typed, has no cycle of defs and keeps the limits is a well formed
-/// program, where each stream has the name of a ring: a name, or a decimal from 1 on of at most 31 digits.
+/// The translation of a sound and plain specification is a well formed program.
 pub fn translations_are_well_formed()
-    ensures { (s : SpecValue) (name : List ℕ) → IsTrue (is_name name) → WellTyped s → s.libs ≡ [] → IsPlainSpec (trees s)
-        → HasNoCycle (trees s).defs → KeepsLimits (plain_form (trees s)) → All (λ (x : StreamItem). IsTrue (is_ring_name x.name)) s.streams
-        → IsWellFormed (translation (closed_spec s) name) }
+    ensures { (s : SpecValue) (name : List ℕ) → IsTrue (is_name name) → IsSoundPlain s → IsWellFormed (translation (closed_spec s) name) }
 {}
 
 /// And it does what the specification means.
 pub fn translations_simulate()
-    ensures { (s : SpecValue) (name : List ℕ) → IsTrue (is_name name) → WellTyped s → s.libs ≡ [] → IsPlainSpec (trees s)
-        → HasNoCycle (trees s).defs → KeepsLimits (plain_form (trees s)) → All (λ (x : StreamItem). IsTrue (is_ring_name x.name)) s.streams
-        → Simulates s name (translation (closed_spec s) name) }
+    ensures { (s : SpecValue) (name : List ℕ) → IsTrue (is_name name) → IsSoundPlain s → Simulates s name (translation (closed_spec s) name) }
 {}

@@ -1,5 +1,5 @@
 -- When a specification is well typed.
-use Rattle.std.specs.Prelude.{ℕ, suc, ◌+◌, ◌<◌, ◌≤◌, ◌≡◌, ◌≢◌, ◌⊎◌, List, [], ◌∷◌, ◌++◌, length, map, max, replicate, slice_get, slice_index, decimal, Some, IsTrue, All}
+use Rattle.std.specs.Prelude.{ℕ, suc, ◌+◌, ◌^◌, ◌<◌, ◌≤◌, ◌≡◌, ◌≢◌, ◌⊎◌, List, [], ◌∷◌, ◌++◌, length, map, max, replicate, slice_get, slice_index, decimal, Some, IsTrue, All}
 use Rattle.sm_io.specs.Words.{is_name}
 use Rattle.stream_types.specs.declared.scalar.Scalar.TheVariants as scalar
 use Rattle.stream_types.specs.declared.scalar.Ty.{Ty}
@@ -176,9 +176,9 @@ declared_names s =
 abbrev pub IsName : List ℕ → Type 0
 IsName name = IsTrue (is_name name)
 
--- a decimal from 1 on, as buffers have
+-- a decimal from 1 on below 2 ^ 64, as buffers have
 abbrev pub IsNumber : List ℕ → Type 0
-IsNumber name = (n : ℕ) × (1 ≤ n) × (name ≡ decimal n)
+IsNumber name = (n : ℕ) × (1 ≤ n) × (n < 2 ^ 64) × (name ≡ decimal n)
 
 -- the name of a stream; a decimal only where there are no library forms
 abbrev pub IsStreamName : List LibItem → List ℕ → Type 0

@@ -123,7 +123,7 @@ pub each_number : (P : List ℕ → Type 0) (n k : ℕ) → ((m : ℕ) → n ≤
 each_number P n zero h = tt
 each_number P n (suc k) h = (h n (omega arith) (omega arith), each_number P (n + 1) k (λ m a b. h m (omega (arith, a)) (omega (arith, b))))
 
-small : (m : ℕ) → m < 1048576 → m < 2 ^ 64
+pub small : (m : ℕ) → m < 1048576 → m < 2 ^ 64
 small m h = omega (arith, h)
 
 pub numbers_apart : (n k : ℕ) → n + k < 1048576 → Apart (numbers n k)

@@ -1,5 +1,5 @@
 -- The names of a lowered specification: the old ones, and the numbers of the buffers.
-use Rattle.std.proofs.Common.{◌≡◌, ◌≢◌, inl, inr, ℕ, zero, suc, ◌+◌, ◌<◌, List, [], ◌∷◌, ◌++◌, length, map, Some, refl, sym, ap, ◌∙◌, subst}
+use Rattle.std.proofs.Common.{◌≡◌, ◌≢◌, inl, inr, ℕ, zero, suc, ◌+◌, ◌<◌, List, [], ◌∷◌, ◌++◌, length, map, Some, refl, sym, ap, ◌∙◌, subst, arith}
 use Rattle.std.specs.Prelude.{slice_get, All}
 use Rattle.std.specs.List.{AllByRecursion}
 use Rattle.std.proofs.lemmas.List.{append_assoc}
@@ -18,7 +18,7 @@ use Rattle.stream_core.specs.WellTyped.{HasGoodNames, HasNames, IsName, IsStream
 use Rattle.form_laws.proofs.BufferStreams.{AsMany}
 use Rattle.form_laws.proofs.OutOfSpecs.{map_append, map_twice}
 use Rattle.form_laws.proofs.PlainForms.{all_of_each, each_append, each_of}
-use Rattle.stream_lib.proofs.BufferNames.{Apart, NotIn, all_told, apart_of, back_of, buffer_names, each_number, front_of, inserted, name_in_no_numbers, names, not_at, not_in, numbers, numbers_apart, numbers_not_among, once_of}
+use Rattle.stream_lib.proofs.BufferNames.{Apart, NotIn, all_told, apart_of, back_of, buffer_names, each_number, front_of, inserted, name_in_no_numbers, names, not_at, not_in, numbers, numbers_apart, numbers_not_among, once_of, small}
 
 -- ---- lists
 
@@ -171,7 +171,7 @@ module _ (s x : SpecValue) (is : trees x ≡ lowered_spec (trees s)) (none : x.l
         front_apart)
 
     buffer_is_named : AllByRecursion (IsStreamName []) (numbers 1 told)
-    buffer_is_named = each_number (IsStreamName []) 1 told (λ m a b. inr (m, a, refl))
+    buffer_is_named = each_number (IsStreamName []) 1 told (λ m a b. inr (m, a, small m (omega (arith, b, few)), refl))
 
     streams_named : All (λ (y : StreamItem). IsStreamName x.libs y.name) x.streams
     streams_named = subst (λ (libs : List LibItem). All (λ (y : StreamItem). IsStreamName libs y.name) x.streams) (sym none)

@@ -1,6 +1,6 @@
 pub mod Words
 pub mod Unsound
-pub mod Building
+pub mod LoweredPrograms
 pub mod Programs
 pub mod Stopping
 pub mod OneFault

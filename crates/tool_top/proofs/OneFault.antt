@@ -1,5 +1,5 @@
 -- A text has one first fault, and none where it stands for a specification.
-use Rattle.std.specs.Prelude.{◌≡◌, ◌≤◌, ◌⊎◌, ℕ, List, slice_get, Option, Some, None}
+use Rattle.std.specs.Prelude.{◌≡◌, ◌≤◌, ◌⊎◌, ℕ, List, slice_get, Option, Some, None, option_and_then}
 use Rattle.std.proofs.Common.{sym, subst, refl, ap, ◌∙◌, arith, inl, inr}
 use Rattle.stream_core.specs.Value.{SpecValue}
 use Rattle.stream_core.specs.Term.{TreeSpec, TreeDef, trees}
@@ -12,7 +12,9 @@ use Rattle.spec_text.specs.Form.{IsSurfaceOf, AllMatch, form_of, more, none}
 use Rattle.spec_text.specs.KeepsTable.{KeepsTable}
 use Rattle.spec_text.specs.Shape.{shape_fault, shape_fault_of}
 use Rattle.spec_text.specs.declared.surface.Surface.{Surface}
-use Rattle.typing.specs.Typing.{type_fault}
+use Rattle.type_check.specs.Checked.{type_fault}
+use Rattle.typed_text.specs.ReadSpec.{spec_of}
+use Rattle.typing.specs.Typing.{typing_fault, first_typing_fault}
 use Rattle.tool_top.specs.declared.outcome.Refusal.{Refusal}
 use Rattle.tool_top.specs.Analysis.{of_scan, of_shape, of_types, of_soundness, Scans, Shapes, IsTypedText, Means, HasScanFault, HasShapeFault, HasTypeFault, HasSoundnessFault, HasFirstFault}
 use Rattle.std.proofs.lemmas.Option.{same_Some}
@@ -75,7 +77,8 @@ one_shape forests surfaces text s t a b =
     surfaces b.forest s t (subst (λ ns. AllMatch (more (form_of s) none) ns) (one_scan forests text a.forest b.forest a.scanned b.scanned) a.is) b.is a.kept b.kept
 
 one_typed : OneForest → OneSurface → (text : List ℕ) (s t : SpecValue) → IsTypedText text s → IsTypedText text t → trees s ≡ trees t
-one_typed forests surfaces text s t a b = rw (a.trees_are, b.trees_are, one_shape forests surfaces text a.surface b.surface a.shaped b.shaped) refl
+one_typed forests surfaces text s t a b =
+    a.trees_are ∙ ap spec_of (one_shape forests surfaces text a.surface b.surface a.shaped b.shaped) ∙ sym b.trees_are
 
 -- ---- each stage has one fault, and none where it has a value
 
@@ -112,13 +115,16 @@ shape_shapes forests text a s h k =
 
 -- the fault of names and types
 
+no_typing_fault : (s : Surface) → type_fault s ≡ None → first_typing_fault s ≡ None
+no_typing_fault s faultless = ap (option_and_then typing_fault) faultless
+
 type_type : OneForest → OneSurface → (text : List ℕ) (a b : Refusal) → HasTypeFault text a → HasTypeFault text b → a ≡ b
 type_type forests surfaces text a b h k =
-    told_once of_types (type_fault k.0) a b (subst (λ s. Told of_types (type_fault s) a) (one_shape forests surfaces text h.0 k.0 h.1 k.1) (h.2, h.3, h.4)) (k.2, k.3, k.4)
+    told_once of_types (first_typing_fault k.0) a b (subst (λ s. Told of_types (first_typing_fault s) a) (one_shape forests surfaces text h.0 k.0 h.1 k.1) (h.2, h.3, h.4)) (k.2, k.3, k.4)
 
 type_types : OneForest → OneSurface → (text : List ℕ) (a : Refusal) (s : SpecValue) → HasTypeFault text a → IsTypedText text s → ⊥
 type_types forests surfaces text a s h k =
-    not_told of_types (type_fault h.0) a (ap type_fault (one_shape forests surfaces text h.0 k.surface h.1 k.shaped) ∙ k.fault) (h.2, h.3, h.4)
+    not_told of_types (first_typing_fault h.0) a (no_typing_fault h.0 (ap type_fault (one_shape forests surfaces text h.0 k.surface h.1 k.shaped) ∙ k.fault)) (h.2, h.3, h.4)
 
 -- the fault of soundness
 

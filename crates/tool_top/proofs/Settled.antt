@@ -10,7 +10,7 @@ use Rattle.tool_top.specs.Analysis.{Means, HasFirstFault}
 use Rattle.tool_top.specs.Command.{CommandValue, compile, interpret, cexec, demo, migrate, standalone, cfs, ros, fprime, no_command}
 use Rattle.tool_top.specs.Outside.{outside}
 use Rattle.tool_top.specs.Wanted.{Unread, text_file, text_limit, before_rest, contents}
-use Rattle.tool_top.specs.Answer.{IsUnrun, IsRefusal, TellsShelfFaults, IsSettled, Names}
+use Rattle.tool_top.specs.Answer.{IsRefusal, TellsShelfFaults, IsSettled, Names}
 use Rattle.tool_top.specs.Compile.{Compiles, IsCompiled}
 use Rattle.tool_top.specs.Runs.{Completes, IsAccepted, HasOneOutcome}
 use Rattle.tool_top.specs.declared.outcome.Outcome.{Outcome}
@@ -34,17 +34,9 @@ unread file fault = Err (record { name = file; fault = fault })
 
 -- ---- what a file's content is refused for
 
-all_run : (row : CommandValue) (text : List ℕ) (a : Refusal) → IsUnrun row text a → ⊥
-all_run row text a u = none u.at u.first
-  where
-    none : (at : ℕ) → None ≡ Some at → ⊥
-    none at h = cc
-
 refused_once : OneFault → (spec name : List ℕ) (read : Result (List (List ℕ)) Unread) (a b : Refusal) → IsRefusal (compile spec name) read a → IsRefusal (compile spec name) read b → a ≡ b
 refused_once one spec name (Ok []) a b h k = absurd h
-refused_once one spec name (Ok (text ∷ [])) a b (inl h) (inl k) = one text a b h k
-refused_once one spec name (Ok (text ∷ [])) a b (inl h) (inr k) = absurd (all_run (compile spec name) text b k)
-refused_once one spec name (Ok (text ∷ [])) a b (inr h) k = absurd (all_run (compile spec name) text a h)
+refused_once one spec name (Ok (text ∷ [])) a b h k = one text a b h k
 refused_once one spec name (Ok (text ∷ other ∷ more)) a b h k = absurd h
 refused_once one spec name (Err unread) a b h k = h.1 ∙ sym k.1
 
@@ -68,11 +60,8 @@ ended spec name files new WriteFault settled h = absurd settled
 ended spec name files new NoMemory settled h = absurd settled
 
 not_refused : SoundTexts → (spec name : List ℕ) (files : Files) (header source : List ℕ) (a : Refusal) → IsCompiled spec name files header source → IsRefusal (compile spec name) (contents files (text_file spec)) a → ⊥
-not_refused sound spec name files header source a c h = fails (subst (λ read. IsRefusal (compile spec name) read a) c.text_is h)
-  where
-    fails : HasFirstFault c.text a ⊎ IsUnrun (compile spec name) c.text a → ⊥
-    fails (inl h) = sound c.text c.program.means a c.program.source_is h
-    fails (inr k) = c.run a k
+not_refused sound spec name files header source a c h =
+    sound c.text c.program.means a c.program.source_is (subst (λ read. IsRefusal (compile spec name) read a) c.text_is h)
 
 not_missing : (spec name : List ℕ) (files : Files) (header source file : List ℕ) → IsCompiled spec name files header source → contents files (text_file spec) ≡ absent file → ⊥
 not_missing spec name files header source file c is = differ c.text (sym c.text_is ∙ is)

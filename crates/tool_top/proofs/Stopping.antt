@@ -25,7 +25,7 @@ missing_stops (Some m) spec h = λ name. (spec, rw h refl)
 -- ---- a run that stops
 
 is_refusal : (spec name text : List ℕ) (m : Files) (stop : Outcome) → Stops (HasFirstFault text) stop → contents m (text_file spec) ≡ Ok (text ∷ []) → Compiles spec name m (Some m) stop
-is_refusal spec name text m (Refused refusal) a is = (subst (λ read. IsRefusal (compile spec name) read refusal) (sym is) (inl a), refl)
+is_refusal spec name text m (Refused refusal) a is = (subst (λ read. IsRefusal (compile spec name) read refusal) (sym is) a, refl)
 is_refusal spec name text m NoMemory a is = (tt, refl)
 is_refusal spec name text m Done a is = absurd a
 is_refusal spec name text m Usage a is = absurd a
@@ -65,11 +65,7 @@ compiled_of spec name text header source m p is = record {
   text = text;
   text_is = is;
   program = p;
-  run = λ refusal unrun. no_place unrun.at unrun.first;
 }
-  where
-    no_place : (at : ℕ) → None ≡ Some at → ⊥
-    no_place at h = cc
 
 -- both files were put
 pub done_compiles : (spec name text header source : List ℕ) (old new : Option Files) → IsProgramFor text name header source → IfSome old (λ m. contents m (text_file spec) ≡ Ok (text ∷ [])) → new ≡ with_puts old (program_files name header source) → IfSome old (λ m. Compiles spec name m new Done)

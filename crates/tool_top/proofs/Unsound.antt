@@ -1,22 +1,14 @@
 -- What is known of a sound specification, and how a fault of soundness stops a run.
-use Rattle.std.specs.Prelude.{◌≡◌, ◌≤◌, ℕ, List, nat_lt, if◌then◌else◌, Option, Some, None}
-use Rattle.std.proofs.Common.{refl, sym, subst, inr, arith}
-use Rattle.std.proofs.lemmas.Bool.Decides.{nat_tests}
+use Rattle.std.specs.Prelude.{◌≡◌, ℕ, List, None}
+use Rattle.std.proofs.Common.{refl, sym, subst, inr}
 use Rattle.stream_core.specs.Value.{SpecValue}
-use Rattle.stream_core.specs.Term.{trees}
-use Rattle.stream_core.specs.Soundness.{SoundnessFault, cycle, too_many_decls, too_many_words, root_too_heavy, spec_too_heavy, total_words, declarations, weight_fault, heavy_root}
+use Rattle.stream_core.specs.Soundness.{cycle, too_many_decls, too_many_words, root_too_heavy, spec_too_heavy}
 use Rattle.stream_core.specs.Meaning.{IsFirstFault}
 use Rattle.recursion_check.specs.declared.fault.SoundFault.{SoundFault}
 use Rattle.recursion_check.specs.declared.fault.SoundFault.TheVariants as unsound
 use Rattle.recursion_check.specs.Judged.{Blames}
 use Rattle.tool_top.specs.declared.outcome.Outcome.{Outcome}
 use Rattle.tool_top.specs.Analysis.{IsTypedText, Means, HasFirstFault, Stops, stop_of_soundness}
-
-few_words : (d w : ℕ) (rest : Option SoundnessFault) → (if nat_lt 4096 d then Some too_many_decls else if nat_lt 262144 w then Some too_many_words else rest) ≡ None → w ≤ 262144
-few_words d w rest h = grind (arith, nat_tests, h)
-
-pub sound_words : (s : SpecValue) → IsFirstFault s None → total_words (trees s) ≤ 262144
-sound_words s h = few_words (declarations (trees s)) (total_words (trees s)) (weight_fault (trees s) (heavy_root (trees s))) h.1
 
 pub blamed : (text : List ℕ) (s : SpecValue) → IsTypedText text s → (fault : SoundFault) → Blames s fault → Stops (HasFirstFault text) (stop_of_soundness fault)
 blamed text s typed (unsound.Cycle at) h = inr (inr (inr (s, typed, cycle at, h, refl)))

@@ -19,9 +19,10 @@ use Rattle.spec_text.specs.Shape.{SyntaxFault, bad_form, bad_name, bad_literal, 
 use Rattle.spec_text.specs.Parses.{syntax_fault}
 use Rattle.spec_text.specs.declared.surface.Surface.{Surface}
 use Rattle.spec_text.specs.declared.fault.ShapeFault.{ShapeFault}
-use Rattle.typing.specs.Typing.{TypingFault, redeclared, unknown, type_clash, nested_array, type_too_wide, drop_of_no_buffer, drop_too_far, not_yet, type_fault, typing_fault}
-use Rattle.typing.specs.Reading.{spec_of}
-use Rattle.typing.specs.declared.fault.TypeFault.{TypeFault}
+use Rattle.type_check.specs.Checked.{type_fault}
+use Rattle.type_check.specs.declared.fault.TypeFault.{TypeFault}
+use Rattle.typed_text.specs.ReadSpec.{spec_of}
+use Rattle.typing.specs.Typing.{TypingFault, redeclared, unknown, type_clash, nested_array, type_too_wide, drop_of_no_buffer, drop_too_far, first_typing_fault, typing_fault}
 use Rattle.recursion_check.specs.declared.fault.SoundFault.{SoundFault}
 use Rattle.recursion_check.specs.declared.fault.SoundFault.TheVariants as unsound
 use Rattle.tool_top.specs.declared.outcome.Outcome.{Outcome}
@@ -62,7 +63,6 @@ of_types (nested_array at) = at_place kind.NestedArray at
 of_types (type_too_wide at) = at_place kind.TypeTooWide at
 of_types (drop_of_no_buffer at) = at_place kind.DropOfNoBuffer at
 of_types (drop_too_far at) = at_place kind.DropTooFar at
-of_types (not_yet at) = at_place kind.NotYet at
 
 abbrev pub of_soundness : SoundnessFault → Refusal
 of_soundness (cycle at) = at_place kind.Cycle at
@@ -108,7 +108,7 @@ abbrev pub HasShapeFault : List ℕ → Refusal → Type 0
 HasShapeFault text refusal = (forest : Forest) × Scans text forest × (e : SyntaxFault) × (shape_fault forest ≡ Some e) × (refusal ≡ of_shape e)
 
 abbrev pub HasTypeFault : List ℕ → Refusal → Type 0
-HasTypeFault text refusal = (surface : Surface) × Shapes text surface × (e : TypingFault) × (type_fault surface ≡ Some e) × (refusal ≡ of_types e)
+HasTypeFault text refusal = (surface : Surface) × Shapes text surface × (e : TypingFault) × (first_typing_fault surface ≡ Some e) × (refusal ≡ of_types e)
 
 abbrev pub HasSoundnessFault : List ℕ → Refusal → Type 0
 HasSoundnessFault text refusal = (s : SpecValue) × IsTypedText text s × (e : SoundnessFault) × IsFirstFault s (Some e) × (refusal ≡ of_soundness e)

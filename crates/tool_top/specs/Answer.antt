@@ -1,39 +1,21 @@
 -- What a run may answer, and what each answer rests on.
-use Rattle.std.specs.Prelude.{◌≡◌, ℕ, ◌⊎◌, List, [], ◌∷◌, Option, Some, None, Result, Ok, Err, Contains}
+use Rattle.std.specs.Prelude.{◌≡◌, ℕ, List, [], ◌∷◌, Option, Some, None, Result, Ok, Err, Contains}
 use Rattle.sm_io.specs.Causes.{Rose}
 use Rattle.sm_io.specs.Files.{Files}
 use Rattle.sm_io.specs.declared.outside.FetchFault.TheVariants as fetch
-use Rattle.stream_core.specs.Value.{SpecValue}
-use Rattle.spec_text.specs.declared.surface.Surface.{Surface}
-use Rattle.tool_top.specs.Analysis.{Shapes, Means, HasFirstFault, too_long, at_place}
+use Rattle.tool_top.specs.Analysis.{HasFirstFault, too_long}
 use Rattle.tool_top.specs.Command.{CommandValue, compile, interpret, cexec, demo}
 use Rattle.tool_top.specs.Outside.{Outside, ShelfFailed, InputFailed, OutFailed, NothingFailed}
 use Rattle.tool_top.specs.Wanted.{Unread, wanted, contents}
 use Rattle.tool_top.specs.declared.outcome.Outcome.{Outcome}
 use Rattle.tool_top.specs.declared.outcome.Outcome.TheVariants.{Done, Refused, Usage, Hazard, Undefined, BadRow, ReadFault, WriteFault, Missing, NoMemory}
 use Rattle.tool_top.specs.declared.outcome.Refusal.{Refusal}
-use Rattle.tool_top.specs.declared.outcome.RefusalKind.TheVariants as kind
 
 -- ---- refused content
 
--- the first node, in preorder, of an accepted surface that the command doesn't run; every command that is built runs
--- all that is accepted
-abbrev pub first_unrun : CommandValue → Surface → Option ℕ
-first_unrun _ surface = None
-
--- The text stands for a specification, and holds a node that the command doesn't run.
-pub record IsUnrun (command : CommandValue) (text : List ℕ) (refusal : Refusal) : Type 0 where
-  pub surface : Surface
-  pub shaped : Shapes text surface
-  pub means : SpecValue
-  pub source_is : Means text means
-  pub at : ℕ
-  pub first : first_unrun command surface ≡ Some at
-  pub refusal_is : refusal ≡ at_place kind.NotYet at
-
 -- The files that a command reads are there and within their limits, and their content is refused so.
 abbrev pub IsRefusedFor : CommandValue → List (List ℕ) → Refusal → Type 0
-IsRefusedFor (compile spec name) (text ∷ []) refusal = HasFirstFault text refusal ⊎ IsUnrun (compile spec name) text refusal
+IsRefusedFor (compile spec name) (text ∷ []) refusal = HasFirstFault text refusal
 IsRefusedFor _ texts refusal = ⊥
 
 -- The first file that can't be read has more bytes than it may, or the content is refused.

@@ -6,14 +6,13 @@ use Rattle.c99_tree.specs.declared.unit.Unit.{Unit as CUnit}
 use Rattle.c99_tree.specs.Spelling.{Spells}
 use Rattle.ring_codegen.specs.Simulation.{Simulates}
 use Rattle.tool_top.specs.Analysis.{Means}
-use Rattle.tool_top.specs.Answer.{IsUnrun, StopsAt, TellsFaults, IsFileAnswer}
+use Rattle.tool_top.specs.Answer.{StopsAt, TellsFaults, IsFileAnswer}
 use Rattle.tool_top.specs.Command.{compile}
 use Rattle.tool_top.specs.Outside.{Outside, ShelfFailed, CountsStand, StreamsStand}
 use Rattle.tool_top.specs.Puts.{with_puts, OnePutFailed, program_files}
 use Rattle.tool_top.specs.Wanted.{text_file, contents}
 use Rattle.tool_top.specs.declared.outcome.Outcome.{Outcome}
 use Rattle.tool_top.specs.declared.outcome.Outcome.TheVariants.{Done, WriteFault}
-use Rattle.tool_top.specs.declared.outcome.Refusal.{Refusal}
 
 -- Two texts spell exactly one program, which is well formed, has this name and does what a specification means.
 pub record IsProgramOf (means : SpecValue) (name header source : List ℕ) : Type 0 where
@@ -28,12 +27,11 @@ pub record IsProgramFor (text name header source : List ℕ) : Type 0 where
   pub source_is : Means text means
   pub program : IsProgramOf means name header source
 
--- The file is there and within its limit, and the two texts are such a program for its text, all of which is run.
+-- The file is there and within its limit, and the two texts are such a program for its text.
 pub record IsCompiled (spec name : List ℕ) (files : Files) (header source : List ℕ) : Type 0 where
   pub text : List ℕ
   pub text_is : contents files (text_file spec) ≡ Ok (text ∷ [])
   pub program : IsProgramFor text name header source
-  pub run : (refusal : Refusal) → ¬ IsUnrun (compile spec name) text refusal
 
 -- The answer over these files, and the files that it leaves: after Done the header and the source stand, after a fault
 -- of writing one of the two puts failed, and after any other answer all files are as before.

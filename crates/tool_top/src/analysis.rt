@@ -68,7 +68,6 @@ fn stop_of_types(fault: TypeFault) -> Outcome
         TypeFault::TypeTooWide(at) => at_place(RefusalKind::TypeTooWide, at),
         TypeFault::DropOfNoBuffer(at) => at_place(RefusalKind::DropOfNoBuffer, at),
         TypeFault::DropTooFar(at) => at_place(RefusalKind::DropTooFar, at),
-        TypeFault::NotYet(at) => at_place(RefusalKind::NotYet, at),
         TypeFault::Memory => Outcome::NoMemory,
     }
 }

@@ -14,4 +14,6 @@ pub use outcome::{Outcome, Refusal, RefusalKind, Tool};
 pub use top::{outcome_is_one, run_tool};
 
 #[cfg(test)]
+mod compiled_tests;
+#[cfg(test)]
 mod tests;

@@ -34,12 +34,12 @@ fn words(alloc: Global, texts: &[&str]) -> Result<Vec<String>, AllocError> {
 
 // What a run over some files answers, and its line.
 #[derive(Drop)]
-struct Told {
-    outcome: Outcome,
-    line: VecSink,
+pub struct Told {
+    pub outcome: Outcome,
+    pub line: VecSink,
 }
 
-fn run(
+pub fn run(
     alloc: Global,
     tool: Tool,
     texts: &[&str],
@@ -88,9 +88,8 @@ fn door(rt: HostRuntime) -> Result<(), Fail> {
 }
 
 // A text that `compile a.spec a` refuses, and the line that tells why.
-const REFUSED: [(&str, &str); 13] = [
+const REFUSED: [(&str, &str); 18] = [
     ("(spec t (trigger a b))", "error: Unknown at 19\n"),
-    ("(spec t (extern x Int8))", "error: NotYet at 18\n"),
     (
         "(spec t (trigger x 1:Int8) (stream y))",
         "error: BadForm at 27\n",
@@ -119,12 +118,33 @@ const REFUSED: [(&str, &str); 13] = [
         "error: Redeclared at 33\n",
     ),
     (
-        "(spec t (extern x Bool) (trigger a x x))",
-        "error: NotYet at 37\n",
+        "(spec t (extern x Int8) (trigger a (+ x 1:Int16)))",
+        "error: TypeClash at 35\n",
+    ),
+    ("(spec t (trigger a 1:Int8))", "error: TypeClash at 8\n"),
+    (
+        "(spec d (stream s Word8 (1:Word8) (drop 1 s)))",
+        "error: DropTooFar at 34\n",
     ),
     (
-        "(spec t (extern x Bool) (trigger a (not x)))",
-        "error: NotYet at 35\n",
+        "(spec r (def z Bool a) (def a Bool b) (def b Bool c) (def c Bool a))",
+        "error: Cycle at 23\n",
+    ),
+    (
+        "(spec a (struct P (x (array Word8 1024)) (y Bool)))",
+        "error: TypeTooWide at 8\n",
+    ),
+    (
+        "(spec a (struct P (x Int8) (x Int8)))",
+        "error: Redeclared at 28\n",
+    ),
+    (
+        "(spec2 m (extern a Int8) (trigger t true a) (trigger t true 1:Int16))",
+        "error: TypeClash at 44\n",
+    ),
+    (
+        "(spec m (extern a Int8) (trigger t true a) (trigger t true 1:Int16))",
+        "error: Redeclared at 52\n",
     ),
 ];
 
@@ -143,7 +163,7 @@ fn first_faults(rt: HostRuntime) -> Result<(), Fail> {
     Ok(())
 }
 
-const COMPILE_A: &[&str] = &["compile", "a.spec", "a"];
+pub const COMPILE_A: &[&str] = &["compile", "a.spec", "a"];
 
 // 'Empty', and the same behind a comment and with one in it.
 #[test]

@@ -22,10 +22,11 @@ use crate::tell::tell;
 use c99_print::{print_header, print_source, printed_texts_are_spelled};
 use c99_read::texts_spell_one_unit;
 use c99_tree::Unit;
+use recursion_check::Sound;
 use ring_codegen::generate;
 use sm_io::{Failed, FetchFault, Name, Shelf, Sink, Source, VecSink};
 use std::alloc::{AllocError, Global};
-use stream_core::Spec;
+use stream_lib::lower;
 
 // The most bytes of a specification.
 const TEXT_LIMIT: usize = 1_048_576;
@@ -109,14 +110,15 @@ fn unit_name(alloc: Global, name: &str) -> Result<Name, AllocError>
 }
 
 // Both texts of the program of a specification.
-fn program_texts(alloc: Global, spec: &Spec, name: &str) -> Result<Texts, AllocError>
+fn program_texts(alloc: Global, spec: &Sound, name: &str) -> Result<Texts, AllocError>
     requires named { IsTrue (is_name name.now) }
     requires means { (text : List ℕ) × Means text spec.now }
     ensures { IfOk result (λ t. IsProgramOf spec.now name.now t.header.taken t.source.taken) }
 {
     texts_spell_one_unit();
     let name = unit_name(alloc, name)?;
-    let unit = generate(alloc, spec, &name)?;
+    let plain = lower(alloc, spec)?;
+    let unit = generate(alloc, &plain, &name)?;
     make_texts(alloc, &unit)
 }
 
@@ -130,7 +132,7 @@ fn compiled(alloc: Global, text: &[u8], name: &str) -> Result<Texts, Outcome>
         Ok(spec) => spec,
         Err(stop) => return Err(stop),
     };
-    match program_texts(alloc, spec.spec(), name) {
+    match program_texts(alloc, &spec, name) {
         Ok(texts) => Ok(texts),
         Err(AllocError) => Err(Outcome::NoMemory),
     }

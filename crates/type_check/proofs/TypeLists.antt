@@ -85,7 +85,7 @@ other_type : (t u : NamedType) (ts : List NamedType) (b : Bool) → same_type u 
 other_type t u ts true e n h = absurd (let f : among t ts ≡ true = subst (λ v. among v ts ≡ true) (same_true u t e) h in let no : true ≡ false = sym f ∙ n in cc)
 other_type t u ts false e n h = e
 
-no_more : (all : Declarations) (before ts us : List NamedType) → Steps all before ts → ((t : NamedType) → among t ts ≡ true → among t us ≡ true) → length ts ≤ length us
+pub no_more : (all : Declarations) (before ts us : List NamedType) → Steps all before ts → ((t : NamedType) → among t ts ≡ true → among t us ≡ true) → length ts ≤ length us
 no_more all before [] us s f = omega arith
 no_more all before (t ∷ ts) us s f =
     let own : among t us ≡ true = f t (ap (λ b. b || among t ts) (same_refl t)) in

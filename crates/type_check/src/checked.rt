@@ -3,7 +3,7 @@ ghost use Rattle.std.specs.Prelude.{◌≤◌};
 ghost use Rattle.type_check.specs.Checked.{Checks, GivesOrdered};
 ghost use Rattle.spec_text.specs.KeepsTable.{KeepsTable};
 ghost use Rattle.spec_text.specs.Form.{form_of};
-ghost use Rattle.spec_text.specs.Extent.{list_count, item_count, nesting};
+ghost use Rattle.spec_text.specs.Extent.{item_count};
 
 use crate::fault::TypeFault;
 use crate::list::list;
@@ -37,12 +37,9 @@ pub fn in_order(alloc: Global, surface: &Surface) -> Result<Ordered, TypeFault>
 
 /// The type list of a surface, or the first fault of its names and types.
 ///
-/// The surface keeps the table of forms, and its canonical text nests at most 64 lists and has at most 524,288 lists
-/// and 1,048,576 items.
+/// The surface keeps the table of forms, and its canonical text has at most 1,048,576 items.
 pub fn check_types(alloc: Global, surface: &Surface) -> Result<Types, TypeFault>
     requires kept { KeepsTable surface.now }
-    requires nested { nesting (form_of surface.now) ≤ 64 }
-    requires lists { list_count (form_of surface.now) ≤ 524288 }
     requires items { item_count (form_of surface.now) ≤ 1048576 }
     ensures { Checks surface.now result }
 {

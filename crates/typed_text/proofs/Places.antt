@@ -124,7 +124,7 @@ pub record IsDecl (s : Surface) (before : Declarations) (x : Decl) : Type 0 wher
   pub kept : keeps_decl s.version x ≡ true
   pub same : AreSame before (all_of s)
 
-kept_decls : (s : Surface) → KeepsTable s → all_kept (map (keeps_decl s.version) s.decls) ≡ true
+pub kept_decls : (s : Surface) → KeepsTable s → all_kept (map (keeps_decl s.version) s.decls) ≡ true
 unfolding keeps_table
 kept_decls s k = (and_parts _ (all_kept (map (keeps_decl s.version) s.decls)) k).1
 

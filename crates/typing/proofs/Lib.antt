@@ -1,6 +1,6 @@
-pub mod BuiltForms
-pub mod Redeclarations
-pub mod Externs
-pub mod Gathered
-pub mod Apart
-pub mod WholeSpec
+pub mod MadeNodes
+pub mod MadeForms
+pub mod MadeExprs
+pub mod MadeDecls
+pub mod FewTypes
+pub mod Told

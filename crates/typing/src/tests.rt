@@ -28,13 +28,12 @@ fn fault(alloc: Global, text: &str) -> Result<(&'static str, u64), Fail> {
     Ok(match type_all(alloc, &surface) {
         Ok(_) => ("", 0),
         Err(TypeFault::Redeclared(at)) => ("Redeclared", at),
-        Err(TypeFault::NotYet(at)) => ("NotYet", at),
         Err(TypeFault::Unknown(at)) => ("Unknown", at),
         Err(_) => ("another", 0),
     })
 }
 
-const FAULTS: [(&str, &str, u64); 7] = [
+const FAULTS: [(&str, &str, u64); 6] = [
     (
         "(spec f (extern x Bool) (def x Bool true))",
         "Redeclared",
@@ -51,7 +50,6 @@ const FAULTS: [(&str, &str, u64); 7] = [
         "",
         0,
     ),
-    ("(spec t (extern x Int8))", "NotYet", 18),
     ("(spec t (trigger a b))", "Unknown", 19),
     ("(spec a)", "", 0),
 ];

@@ -5,15 +5,13 @@ ghost use Rattle.spec_text.specs.KeepsTable.{KeepsTable};
 ghost use Rattle.spec_text.specs.Form.{form_of};
 ghost use Rattle.spec_text.specs.Extent.{list_count, item_count, nesting};
 
-use crate::fault::TypeFault;
-use crate::names::name_fault;
-use crate::reading::{add_externs, add_triggers, extern_names};
-use crate::unbuilt::first_unbuilt;
 use spec_text::Surface;
 use std::alloc::Global;
 use stream_core::Spec;
+use type_check::{TypeFault, check_types};
+use typed_spec::spec_over;
 
-/// The typed specification of a surface, or the first fault: of names, then of what isn't built yet, then of types.
+/// The typed specification of a surface, or the first fault: of names, then of types.
 ///
 /// The surface keeps the table of forms, and its canonical text nests at most 64 lists and has at most 524,288 lists
 /// and 1,048,576 items.
@@ -24,20 +22,6 @@ pub fn type_all(alloc: Global, surface: &Surface) -> Result<Spec, TypeFault>
     requires items { item_count (form_of surface.now) ≤ 1048576 }
     ensures { Types surface.now result }
 {
-    if let Some(at) = name_fault(alloc, surface)? {
-        return Err(TypeFault::Redeclared(at));
-    }
-    let decls = surface.decls.as_slice();
-    if let Some(at) = first_unbuilt(decls) {
-        return Err(TypeFault::NotYet(at));
-    }
-    let externs = extern_names(alloc, decls)?;
-    let mut spec = Spec::new(
-        alloc,
-        surface.name.copy(alloc)?,
-        stream_types::Types::new(alloc),
-    );
-    add_externs(alloc, decls, &mut spec)?;
-    add_triggers(alloc, decls, &externs, &mut spec)?;
-    Ok(spec)
+    let types = check_types(alloc, surface)?;
+    Ok(spec_over(alloc, surface, types)?)
 }

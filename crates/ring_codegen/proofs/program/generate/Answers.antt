@@ -1,27 +1,37 @@
-use Rattle.std.proofs.Common.{◌≤◌, List, length, map, sym, ap, ◌∙◌, subst}
-use Rattle.stream_core.specs.declared.spec.ExternItem.{ExternItem}
-use Rattle.ring_codegen.specs.Generated.{bool_var}
-use Rattle.ring_codegen.proofs.Named.{few_externs, guards_are}
-use Rattle.ring_codegen.proofs.Writing.{written}
+use Rattle.std.proofs.Common.{◌≡◌, ◌≤◌, sym, ap, ◌∙◌, subst}
+use Rattle.std.specs.Prelude.{IsTrue}
+use Rattle.stream_core.specs.Value.{SpecValue}
+use Rattle.stream_core.specs.Meaning.{closed_spec}
+use Rattle.stream_lib.specs.PlainSpecs.{IsSoundPlain}
+use Rattle.c99_tree.specs.declared.unit.Unit.{Unit as CUnit}
+use Rattle.c99_tree.specs.Storage.{storage_of}
+use Rattle.c99_tree.specs.Weight.{unit_weight_of}
+use Rattle.c99_tree.specs.WellFormed.{IsWellFormed, types_come_first}
+use Rattle.ring_codegen.specs.Simulation.{Simulates}
+use Rattle.ring_codegen.specs.Translation.{translation, with_totals}
+use Rattle.ring_codegen.proofs.SoundUnits.{light, simulates, storage_small, types_first, well_formed}
 use Rattle.ring_codegen.proofs.program.generate.Goals as goal
 
-pub copies_storage-requires : goal.copies_storage-requires
-copies_storage-requires c = subst (λ (xs : List ExternItem). length xs ≤ 262144) (sym c.externs.ensures) (few_externs c.args.spec.now c.requires.built c.requires.words)
-
-pub step_statements-requires : goal.step_statements-requires
-step_statements-requires c = guards_are c.args.spec.now c.requires.built c.requires.typed
+pub with_totals-requires : goal.with_totals-requires
+with_totals-requires c =
+    let s = c.spec.result.now in
+    let name = c.args.name.now in
+    let sound = c.spec.ensures.plain in
+    let is = sym c.in_ok-unit.ensures in
+    record {
+      types = subst (λ (u : CUnit). IsTrue (types_come_first u)) is (types_first s name c.requires.named sound);
+      storage = subst (λ (u : CUnit). storage_of u ≤ 2147483647) is (storage_small s name c.requires.named sound);
+      weight = subst (λ (u : CUnit). unit_weight_of u ≤ 2147483647) is (light s name c.requires.named sound);
+    }
 
 pub returns : goal.returns
 returns c =
-    let both = written c.args.spec.now c.args.name.now _ c.requires.named c.requires.typed c.requires.words c.requires.built
-    (λ j. record {
-      name = c.in_ok-copy.ensures j;
-      types = c.new.ensures j;
-      storage = (c.copies_storage.ensures ∙ ap length c.externs.ensures) j;
-      need = 0;
-      externs = (c.in_ok-extern_vars.ensures ∙ ap (map bool_var) c.externs-2.ensures) j;
-      handlers = c.in_ok-handler_protos.ensures j;
-      rings = c.new-2.ensures j;
-      step = c.in_ok-step_statements.ensures j;
-    }) in
-    record { unit = both.0; simulates = both.1 }
+    let s = c.args.plain.now in
+    let name = c.args.name.now in
+    let sound = subst IsSoundPlain c.spec.ensures.spec c.spec.ensures.plain in
+    let is : c.with_totals.result ≡ translation (closed_spec s) name = c.with_totals.ensures ∙ ap with_totals c.in_ok-unit.ensures ∙ ap (λ (v : SpecValue). translation (closed_spec v) name) c.spec.ensures.spec in
+    record {
+      unit = is;
+      formed = subst IsWellFormed (sym is) (well_formed s name c.requires.named sound);
+      simulates = subst (Simulates s name) (sym is) (simulates s name c.requires.named sound);
+    }

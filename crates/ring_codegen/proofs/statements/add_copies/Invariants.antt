@@ -1,5 +1,5 @@
 use Rattle.std.proofs.Common.{◌≡◌, ◌++◌, map, take}
-use Rattle.ring_codegen.specs.Generated.{copy_statement}
+use Rattle.ring_codegen.specs.Translation.{copy_statement}
 use Rattle.ring_codegen.proofs.statements.add_copies.Given as goal
 
 abbrev pub invariant-loop-item : goal.invariant-loop-item

@@ -1,7 +1,7 @@
 use Rattle.std.proofs.Common.{◌≡◌, ℕ, [], ◌∷◌, codes, ap, ◌∙◌, lit<}
 use Rattle.stream_core.specs.declared.spec.Item.TheVariants as item
 use Rattle.stream_core.specs.Stored.{with_item}
-use Rattle.ring_codegen.specs.Built.{bool_item}
+use Rattle.ring_codegen.specs.WorkedSpecs.{bool_item}
 use Rattle.ring_codegen.specs.WorkedSpecs.{bare, bare_trigger, bare_spec}
 use Rattle.ring_codegen.proofs.Fitting.{started, placed_first, room}
 use Rattle.ring_codegen.proofs.tests.door_spec.Goals as goal

@@ -1,0 +1,13 @@
+mod Among
+mod Making
+mod TypedRows
+mod FoundTypes
+mod KindNames
+mod FoundMembers
+mod NameNodes
+mod Lists
+mod FormCounts
+mod Joining
+mod AddedItems
+mod TextNames
+mod WholeText

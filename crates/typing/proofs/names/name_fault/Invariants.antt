@@ -1,9 +1,0 @@
-use Rattle.std.proofs.Common.{◌≡◌}
-use Rattle.typing.proofs.Redeclarations.{IsWalked}
-use Rattle.typing.proofs.names.name_fault.Given as goal
-
-abbrev pub invariant-loop-decl : goal.invariant-loop-decl
-invariant-loop-decl l = record {
-  version_is : l.seen.version ≡ l.surface.version;
-  walked : IsWalked l.surface l.decl-index l.seen.structs.keys l.seen.items.entries;
-}

@@ -1,5 +1,0 @@
-use Rattle.typing.proofs.Redeclarations.{IsTwinless}
-use Rattle.typing.proofs.names.twin.Given as goal
-
-abbrev pub invariant-loop-field : goal.invariant-loop-field
-invariant-loop-field l = IsTwinless l.members l.field-index l.seen.keys
