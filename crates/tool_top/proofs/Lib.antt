@@ -5,3 +5,6 @@ pub mod Programs
 pub mod Stopping
 pub mod OneFault
 pub mod Settled
+pub mod SessionsRun
+pub mod OneSession
+pub mod OneOutcome

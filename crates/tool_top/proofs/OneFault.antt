@@ -76,7 +76,7 @@ one_shape : OneForest → OneSurface → (text : List ℕ) (s t : Surface) → S
 one_shape forests surfaces text s t a b =
     surfaces b.forest s t (subst (λ ns. AllMatch (more (form_of s) none) ns) (one_scan forests text a.forest b.forest a.scanned b.scanned) a.is) b.is a.kept b.kept
 
-one_typed : OneForest → OneSurface → (text : List ℕ) (s t : SpecValue) → IsTypedText text s → IsTypedText text t → trees s ≡ trees t
+pub one_typed : OneForest → OneSurface → (text : List ℕ) (s t : SpecValue) → IsTypedText text s → IsTypedText text t → trees s ≡ trees t
 one_typed forests surfaces text s t a b =
     a.trees_are ∙ ap spec_of (one_shape forests surfaces text a.surface b.surface a.shaped b.shaped) ∙ sym b.trees_are
 

@@ -1,4 +1,4 @@
--- A run's outcome is one, and a text without a fault is compiled.
+-- The outcome of a compile is one, and a text without a fault is compiled.
 use Rattle.std.specs.Prelude.{◌≡◌, ℕ, ◌⊎◌, List, [], ◌∷◌, Option, Some, None, Result, Ok, Err, IfSome}
 use Rattle.std.proofs.Common.{sym, subst, refl, ap, ◌∙◌, inl, inr, lit≤}
 use Rattle.sm_io.specs.Files.{Files}
@@ -8,11 +8,11 @@ use Rattle.sm_io.specs.declared.outside.FetchFault.TheVariants as fetch
 use Rattle.stream_core.specs.Value.{SpecValue}
 use Rattle.tool_top.specs.Analysis.{Means, HasFirstFault}
 use Rattle.tool_top.specs.Command.{CommandValue, compile, interpret, cexec, demo, migrate, standalone, cfs, ros, fprime, no_command}
-use Rattle.tool_top.specs.Outside.{outside}
+use Rattle.tool_top.specs.Outside.{Outside, outside}
 use Rattle.tool_top.specs.Wanted.{Unread, text_file, text_limit, before_rest, contents}
 use Rattle.tool_top.specs.Answer.{IsRefusal, TellsShelfFaults, IsSettled, Names}
-use Rattle.tool_top.specs.Compile.{Compiles, IsCompiled}
-use Rattle.tool_top.specs.Runs.{Completes, IsAccepted, HasOneOutcome}
+use Rattle.tool_top.specs.Compile.{Compiles, IsCompiled, RunsCompile}
+use Rattle.tool_top.specs.Runs.{Completes, IsAccepted, IsTold}
 use Rattle.tool_top.specs.declared.outcome.Outcome.{Outcome}
 use Rattle.tool_top.specs.declared.outcome.Outcome.TheVariants.{Done, Refused, Usage, Hazard, Undefined, BadRow, ReadFault, WriteFault, Missing, NoMemory}
 use Rattle.tool_top.specs.declared.outcome.Refusal.{Refusal}
@@ -26,7 +26,7 @@ abbrev pub OneFault : Type 0
 OneFault = (text : List ℕ) (a b : Refusal) → HasFirstFault text a → HasFirstFault text b → a ≡ b
 
 -- the first file that can't be read is this one, which is absent
-abbrev absent : List ℕ → Result (List (List ℕ)) Unread
+abbrev pub absent : List ℕ → Result (List (List ℕ)) Unread
 absent file = Err (record { name = file; fault = fetch.Missing })
 
 abbrev unread : List ℕ → FetchFault → Result (List (List ℕ)) Unread
@@ -89,20 +89,12 @@ one_end sound one spec name files a b (missing file k) (missing file' k') = refl
 told : (P : Files → Type 0) (files : Option Files) (m : Files) → files ≡ Some m → IfSome files P → P m
 told P files m is h = subst (λ o. IfSome o P) is h
 
-pub one_outcome : SoundTexts → OneFault → HasOneOutcome
-one_outcome sound one (compile spec name) files left before before' after after' a b t t' sa sb h k =
+pub one_compile : SoundTexts → OneFault → (spec name : List ℕ) (files : Files) (left : List ℕ) (before before' after after' : Outside) (a b : Outcome)
+    → IsTold before files left → IsTold before' files left → IsSettled a → IsSettled b → RunsCompile spec name before after a → RunsCompile spec name before' after' b → a ≡ b
+one_compile sound one spec name files left before before' after after' a b t t' sa sb h k =
     one_end sound one spec name files a b
     (ended spec name files after.files a sa (told (λ m. Compiles spec name m after.files a) before.files files t.files_are h.answer))
     (ended spec name files after'.files b sb (told (λ m. Compiles spec name m after'.files b) before'.files files t'.files_are k.answer))
-one_outcome sound one (interpret spec) files left before before' after after' a b t t' sa sb h k = h.0 ∙ sym k.0
-one_outcome sound one (cexec name) files left before before' after after' a b t t' sa sb h k = h.0 ∙ sym k.0
-one_outcome sound one (demo streams steps) files left before before' after after' a b t t' sa sb h k = h.0 ∙ sym k.0
-one_outcome sound one (migrate old new) files left before before' after after' a b t t' sa sb h k = h.0 ∙ sym k.0
-one_outcome sound one (standalone reqs spec) files left before before' after after' a b t t' sa sb h k = h.0 ∙ sym k.0
-one_outcome sound one (cfs reqs name) files left before before' after after' a b t t' sa sb h k = h.0 ∙ sym k.0
-one_outcome sound one (ros reqs name) files left before before' after after' a b t t' sa sb h k = h.0 ∙ sym k.0
-one_outcome sound one (fprime reqs name) files left before before' after after' a b t t' sa sb h k = h.0 ∙ sym k.0
-one_outcome sound one no_command files left before before' after after' a b t t' sa sb h k = h.0 ∙ sym k.0
 
 -- ---- what is accepted is compiled
 
@@ -138,7 +130,7 @@ completes_of row spec name files new f f' l t l' t' i o i' o' outcome is h told 
 
 -- ---- the file that is told missing
 
-one_file : (spec : List ℕ) (read : Result (List ℕ) FetchFault) (file : List ℕ) → before_rest spec read (Ok []) ≡ absent file → before_rest spec read (Ok []) ≡ absent spec
+pub one_file : (spec : List ℕ) (read : Result (List ℕ) FetchFault) (file : List ℕ) → before_rest spec read (Ok []) ≡ absent file → before_rest spec read (Ok []) ≡ absent spec
 one_file spec (Ok text) file h = cc
 one_file spec (Err fault) file h = ap (unread spec) (same fault h)
   where

@@ -3,10 +3,14 @@ use Rattle.std.specs.Prelude.{◌≡◌, ℕ, List, [], ◌∷◌, Option, Some,
 use Rattle.sm_io.specs.Causes.{Rose}
 use Rattle.sm_io.specs.Files.{Files}
 use Rattle.sm_io.specs.declared.outside.FetchFault.TheVariants as fetch
-use Rattle.tool_top.specs.Analysis.{HasFirstFault, too_long}
+use Rattle.stream_core.specs.Value.{SpecValue}
+use Rattle.extern_rows.specs.declared.fault.RowFault.{RowFault}
+use Rattle.extern_rows.specs.LeafFaults.{leaf_name}
+use Rattle.interpreter.specs.Interpreted.{extern_columns}
+use Rattle.tool_top.specs.Analysis.{HasFirstFault, Means, too_long}
 use Rattle.tool_top.specs.Command.{CommandValue, compile, interpret, cexec, demo}
 use Rattle.tool_top.specs.Outside.{Outside, ShelfFailed, InputFailed, OutFailed, NothingFailed}
-use Rattle.tool_top.specs.Wanted.{Unread, wanted, contents}
+use Rattle.tool_top.specs.Wanted.{Unread, text_file, wanted, contents}
 use Rattle.tool_top.specs.declared.outcome.Outcome.{Outcome}
 use Rattle.tool_top.specs.declared.outcome.Outcome.TheVariants.{Done, Refused, Usage, Hazard, Undefined, BadRow, ReadFault, WriteFault, Missing, NoMemory}
 use Rattle.tool_top.specs.declared.outcome.Refusal.{Refusal}
@@ -16,6 +20,7 @@ use Rattle.tool_top.specs.declared.outcome.Refusal.{Refusal}
 -- The files that a command reads are there and within their limits, and their content is refused so.
 abbrev pub IsRefusedFor : CommandValue → List (List ℕ) → Refusal → Type 0
 IsRefusedFor (compile spec name) (text ∷ []) refusal = HasFirstFault text refusal
+IsRefusedFor (interpret spec) (text ∷ []) refusal = HasFirstFault text refusal
 IsRefusedFor _ texts refusal = ⊥
 
 -- The first file that can't be read has more bytes than it may, or the content is refused.
@@ -62,6 +67,20 @@ IsFileAnswer (Undefined step kind) = ⊥
 IsFileAnswer (BadRow line fault) = ⊥
 IsFileAnswer outcome = Unit {0}
 
+-- the answers of a command that stops before it does anything with what it read
+abbrev pub IsStop : Outcome → Type 0
+IsStop (Refused refusal) = Unit {0}
+IsStop Missing = Unit {0}
+IsStop ReadFault = Unit {0}
+IsStop NoMemory = Unit {0}
+IsStop outcome = ⊥
+
+-- the answers of an interpretation
+abbrev pub IsInterpretAnswer : Outcome → Type 0
+IsInterpretAnswer Usage = ⊥
+IsInterpretAnswer (Undefined step kind) = ⊥
+IsInterpretAnswer outcome = Unit {0}
+
 -- all was done, or memory ran out
 abbrev pub IsFinished : Outcome → Type 0
 IsFinished Done = Unit {0}
@@ -84,9 +103,15 @@ IsEarly outcome = ⊥
 
 -- ---- what the line on the error sink speaks of
 
+-- the leaf that a fault of a row speaks of, of a text's specification
+abbrev pub NamesLeaf : Result (List (List ℕ)) Unread → RowFault → List ℕ → Type 0
+NamesLeaf read fault subject = (text : List ℕ) (s : SpecValue) → read ≡ Ok (text ∷ []) → Means text s → subject ≡ leaf_name (extern_columns s) fault
+
 -- The file that is told missing is the first that can't be read, or, of a folder that isn't told, one that the command
--- reads. No other line of a command that is built names anything.
+-- reads; a row that is told bad names the leaf that its fault speaks of. No other line of a command that is built names
+-- anything.
 abbrev pub Names : CommandValue → Option Files → Outcome → List ℕ → Type 0
 Names row (Some files) Missing subject = contents files (wanted row) ≡ Err (record { name = subject; fault = fetch.Missing })
 Names row None Missing subject = (limit : ℕ) × Contains (wanted row) (record { name = subject; limit = limit })
+Names (interpret spec) (Some files) (BadRow line fault) subject = NamesLeaf (contents files (text_file spec)) fault subject
 Names _ files outcome subject = Unit {0}

@@ -1,49 +1,69 @@
--- The session of a specification over an input: what `interpret` will write and answer.
-use Rattle.std.specs.Prelude.{ℕ, Bool, true, false, List, [], ◌∷◌, map, slice_get, Option, Some, None, Result, Ok, Err}
-use Rattle.std.specs.List.{flat_map}
+-- What `interpret` answers, and what it leaves.
+use Rattle.std.specs.Prelude.{◌≡◌, ◌≤◌, ◌⊎◌, ℕ, List, [], ◌∷◌, Option, Some, Ok, IfSome}
+use Rattle.sm_io.specs.Files.{Files}
 use Rattle.stream_types.specs.declared.scalar.Hazard.{Hazard as HazardKind}
 use Rattle.stream_core.specs.Value.{SpecValue}
-use Rattle.stream_core.specs.Eval.{Who, trigger, observer, Event}
-use Rattle.stream_core.specs.Meaning.{step}
-use Rattle.stream_core.specs.declared.spec.ExternItem.{ExternItem}
-use Rattle.stream_core.specs.declared.spec.TriggerItem.{TriggerItem}
-use Rattle.stream_core.specs.declared.spec.ObserverItem.{ObserverItem}
-use Rattle.stream_core.specs.declared.spec.Root.{Root}
 use Rattle.extern_rows.specs.declared.header.Leaf.{Leaf}
-use Rattle.extern_rows.specs.Leaves.{leaf_columns}
-use Rattle.extern_rows.specs.SampleRows.{RowAt, rows_in}
-use Rattle.extern_rows.specs.ValueTexts.{EventOf, typed_event_text}
-use Rattle.tool_top.specs.Session.{Session, session_over}
+use Rattle.extern_rows.specs.LeafFaults.{leaf_name}
+use Rattle.row_sessions.specs.Session.{Streams, streams, RunsSession}
+use Rattle.row_sessions.specs.declared.ending.Ending.{Ending}
+use Rattle.row_sessions.specs.declared.ending.Ending.TheVariants as ending
+use Rattle.interpreter.specs.Interpreted.{extern_columns, interpreted}
+use Rattle.tool_top.specs.Analysis.{Means}
+use Rattle.tool_top.specs.Answer.{StopsAt, TellsFaults, IsInterpretAnswer}
+use Rattle.tool_top.specs.Command.{interpret}
+use Rattle.tool_top.specs.Outside.{Outside, ShelfFailed, InputFailed, OutFailed, StreamsStand}
+use Rattle.tool_top.specs.Wanted.{text_file, contents}
 use Rattle.tool_top.specs.declared.outcome.Outcome.{Outcome}
-use Rattle.tool_top.specs.declared.outcome.Outcome.TheVariants.{Hazard}
+use Rattle.tool_top.specs.declared.outcome.Outcome.TheVariants.{Done, Hazard, BadRow, ReadFault, WriteFault, NoMemory}
 
--- the columns that the externs want, in order
-abbrev pub extern_columns : SpecValue → List Leaf
-extern_columns s = flat_map (λ (x : ExternItem). leaf_columns s.types x.name x.ty) s.externs
+-- what the end of a session is told as
+abbrev pub outcome_of : Ending HazardKind → Outcome
+outcome_of ending.Done = Done
+outcome_of (ending.Stopped step kind) = Hazard step kind
+outcome_of (ending.BadRow line fault) = BadRow line fault
+outcome_of ending.ReadFault = ReadFault
+outcome_of ending.WriteFault = WriteFault
+outcome_of ending.NoMemory = NoMemory
 
--- an event with its name and types; what isn't there is never met
-abbrev pub of_trigger : Option TriggerItem → List ℕ → List EventOf
-of_trigger None words = []
-of_trigger (Some x) words = record { mark = false; name = x.name; args = map (λ (r : Root). r.ty) x.args; words = words } ∷ []
+-- the input and the output
+abbrev pub streams_of : Outside → Streams
+streams_of o = streams o.left o.input_faults o.taken o.out_faults
 
-abbrev pub of_observer : Option ObserverItem → List ℕ → List EventOf
-of_observer None words = []
-of_observer (Some x) words = record { mark = true; name = x.name; args = x.root.ty ∷ []; words = words } ∷ []
+-- The file is there and within its limit, and its text stands for this specification.
+pub record IsReadAs (spec : List ℕ) (files : Files) (s : SpecValue) : Type 0 where
+  pub text : List ℕ
+  pub text_is : contents files (text_file spec) ≡ Ok (text ∷ [])
+  pub means : Means text s
 
-abbrev pub named_event : SpecValue → Who → List ℕ → List EventOf
-named_event s (trigger i) words = of_trigger (slice_get s.triggers i) words
-named_event s (observer i) words = of_observer (slice_get s.observers i) words
+-- A session over the input ended so.
+pub record EndsAs (s : SpecValue) (before after : Outside) (outcome : Outcome) : Type 0 where
+  pub ending : Ending HazardKind
+  pub told : outcome ≡ outcome_of ending
+  pub runs : RunsSession (interpreted s) (streams_of before) (streams_of after) ending
 
-abbrev pub named_events : SpecValue → List Event → List EventOf
-named_events s events = flat_map (λ (e : Event). named_event s e.who e.words) events
+-- The answer over these files: they stop the run before the input is read, or a session of the text's specification ran
+-- over the input.
+abbrev pub Interprets : List ℕ → Files → Outside → Outside → Outcome → Type 0
+Interprets spec files before after outcome =
+    (StopsAt (interpret spec) (contents files (text_file spec)) outcome × StreamsStand before after)
+    ⊎ ((s : SpecValue) × IsReadAs spec files s × EndsAs s before after outcome)
 
--- a step's lines, or its hazard
-abbrev pub step_answer : SpecValue → ℕ → Result (List Event) HazardKind → Result (List ℕ) Outcome
-step_answer s n (Ok events) = Ok (flat_map (typed_event_text s.types n) (named_events s events))
-step_answer s n (Err kind) = Err (Hazard n kind)
+-- The answer is one of the interpreter and is right of the files that are told; a fault comes only where a call on the
+-- folder, the input or the output failed, and none failed where no fault is told; the files stay.
+pub record RunsInterpret (spec : List ℕ) (before after : Outside) (outcome : Outcome) : Type 0 where
+  pub possible : IsInterpretAnswer outcome
+  pub answer : IfSome before.files (λ files. Interprets spec files before after outcome)
+  pub faults : TellsFaults (ShelfFailed before after ⊎ InputFailed before after) (OutFailed before after) before after outcome
+  pub later : before.shelf_faults ≤ after.shelf_faults
+  pub files : after.files ≡ before.files
 
--- the session over the first bytes of an input, which may have ended there
-abbrev pub interpreted : SpecValue → List ℕ → Bool → Session
-interpreted s text ended =
-    let rows = rows_in (extern_columns s) ended text in
-    session_over (λ n. step_answer s n (step s (map (λ (row : RowAt). row.words) rows.rows) n)) rows
+-- Where a row is told bad, these are the columns that the text's specification wants.
+abbrev pub NamesLeaves : List ℕ → Files → Outcome → List Leaf → Type 0
+NamesLeaves spec files (BadRow line fault) leaves = (s : SpecValue) → IsReadAs spec files s → leaves ≡ extern_columns s
+NamesLeaves spec files outcome leaves = Unit {0}
+
+-- what the line of an outcome speaks of: the leaf of a bad row, or else the file
+abbrev pub subject_of : List ℕ → Outcome → List Leaf → List ℕ
+subject_of spec (BadRow line fault) leaves = leaf_name leaves fault
+subject_of spec outcome leaves = spec

@@ -8,5 +8,4 @@ pub mod Puts
 pub mod Answer
 pub mod Compile
 pub mod Runs
-pub mod Session
 pub mod Interpret

@@ -1,10 +1,13 @@
 -- What a run answers, and what it leaves of the outside: one relation a command.
-use Rattle.std.specs.Prelude.{◌≡◌, List, Some, IfSome, Ok, ℕ}
+use Rattle.std.specs.Prelude.{◌≡◌, List, Some, None, IfSome, Ok, ℕ, true}
 use Rattle.sm_io.specs.Files.{Files}
 use Rattle.tool_top.specs.Analysis.{nowhere}
 use Rattle.tool_top.specs.Answer.{IsRefusedFor, IsQuiet, IsFinished, IsSettled, IsEarly}
 use Rattle.tool_top.specs.Command.{CommandValue, compile, interpret, cexec, demo, no_command}
+use Rattle.stream_core.specs.Value.{SpecValue}
+use Rattle.interpreter.specs.Interpreted.{interpreted}
 use Rattle.tool_top.specs.Compile.{RunsCompile}
+use Rattle.tool_top.specs.Interpret.{RunsInterpret, IsReadAs}
 use Rattle.tool_top.specs.Outside.{Outside}
 use Rattle.tool_top.specs.Wanted.{wanted, contents}
 use Rattle.tool_top.specs.declared.outcome.Outcome.{Outcome}
@@ -16,6 +19,7 @@ use Rattle.tool_top.specs.declared.outcome.RefusalKind.TheVariants as kind
 -- told the usage, and a command that isn't built is refused; both leave everything as it was.
 abbrev pub Runs : CommandValue → Outside → Outside → Outcome → Type 0
 Runs (compile spec name) before after outcome = RunsCompile spec name before after outcome
+Runs (interpret spec) before after outcome = RunsInterpret spec before after outcome
 Runs no_command before after outcome = (outcome ≡ Usage) × (after ≡ before)
 Runs _ before after outcome = (outcome ≡ Refused (nowhere kind.NotYet)) × (after ≡ before)
 
@@ -24,6 +28,7 @@ Runs _ before after outcome = (outcome ≡ Refused (nowhere kind.NotYet)) × (af
 -- a command that reads nothing: no folder, no input
 abbrev pub IsIdle : CommandValue → Type 0
 IsIdle (compile spec name) = ⊥
+IsIdle (interpret spec) = ⊥
 IsIdle _ = Unit {0}
 
 -- a run that takes no byte from the input, and one that writes none to the output
@@ -46,10 +51,14 @@ pub record IsAccepted (command : CommandValue) (files : Files) : Type 0 where
   pub texts_are : contents files (wanted command) ≡ Ok texts
   pub fine : (refusal : Refusal) → ¬ IsRefusedFor command texts refusal
 
--- What is accepted is done where none of the command's failures came, or memory ran out.
+-- What is accepted is done where none of the command's failures came, or memory ran out; an interpretation where also
+-- its session has no stop.
 abbrev pub Completes : CommandValue → Outside → Outside → Outcome → Type 0
 Completes (compile spec name) before after outcome =
     IfSome before.files (λ files. IsQuiet (compile spec name) before after → IsAccepted (compile spec name) files → IsFinished outcome)
+Completes (interpret spec) before after outcome =
+    IfSome before.files (λ files. IsQuiet (interpret spec) before after → (s : SpecValue) → IsReadAs spec files s
+    → IfSome before.left (λ whole. (interpreted s whole true).stop ≡ None → IsFinished outcome))
 Completes _ before after outcome = Unit {0}
 
 -- ---- one outcome

@@ -1,6 +1,7 @@
 // From a text to the specification that it stands for.
 ghost use Rattle.std.specs.Prelude.{◌≡◌, ℕ, List, MatchOption, Some, None};
 ghost use Rattle.stream_core.specs.Value.{SpecValue};
+ghost use Rattle.stream_core.specs.Term.{trees};
 ghost use Rattle.tool_top.specs.declared.outcome.Refusal.{Refusal as RefusalValue};
 ghost use Rattle.spec_text.specs.declared.surface.Surface.{Surface};
 ghost use Rattle.tool_top.specs.declared.outcome.Outcome.TheVariants.{Refused};
@@ -134,10 +135,11 @@ pub fn analyse(alloc: Global, text: &[u8]) -> Result<Sound, Outcome>
     }
 }
 
-/// A text has one first fault, and none where it stands for a specification.
+/// A text has one first fault, and none where it stands for a specification, whose trees are then one.
 pub fn first_fault_is_one()
     ensures sound { (text : List ℕ) (s : SpecValue) (a : RefusalValue) → Means text s → HasFirstFault text a → ⊥ }
     ensures one { (text : List ℕ) (a b : RefusalValue) → HasFirstFault text a → HasFirstFault text b → a ≡ b }
+    ensures meaning { (text : List ℕ) (s t : SpecValue) → Means text s → Means text t → trees s ≡ trees t }
 {
     text_has_one_forest();
     forest_has_one_surface();

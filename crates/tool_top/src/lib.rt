@@ -6,6 +6,8 @@
 
 mod analysis;
 mod command;
+mod fetch;
+mod interpreting;
 mod outcome;
 mod tell;
 mod top;
@@ -15,5 +17,7 @@ pub use top::{outcome_is_one, run_tool};
 
 #[cfg(test)]
 mod compiled_tests;
+#[cfg(test)]
+mod interpreted_tests;
 #[cfg(test)]
 mod tests;

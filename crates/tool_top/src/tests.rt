@@ -22,7 +22,7 @@ const COPILOT_USAGE: &str =
 const OGMA_USAGE: &str =
     "usage: ogma standalone REQS SPEC | cfs REQS NAME | ros REQS NAME | fprime REQS NAME\n";
 
-fn words(alloc: Global, texts: &[&str]) -> Result<Vec<String>, AllocError> {
+pub fn words(alloc: Global, texts: &[&str]) -> Result<Vec<String>, AllocError> {
     let mut words = Vec::new(alloc);
     for text in texts {
         words
@@ -217,9 +217,9 @@ const WORDS: [Row; 9] = [
     },
     Row {
         tool: Tool::Copilot,
-        words: &["interpret", "a.spec"],
-        code: 1,
-        line: "error: NotYet at 0\n",
+        words: &["interpret", "nope.spec"],
+        code: 7,
+        line: "missing: nope.spec\n",
     },
     Row {
         tool: Tool::Copilot,

@@ -13,23 +13,24 @@ ghost use Rattle.tool_top.specs.Answer.{StopsAt, TellsShelfFaults, IsFileAnswer,
 ghost use Rattle.tool_top.specs.Compile.{Compiles, IsProgramOf, IsProgramFor};
 ghost use Rattle.tool_top.specs.Runs.{Runs, IsIdle, LeavesInput, LeavesOut, Completes, HasOneOutcome};
 ghost use Rattle.tool_top.specs.Analysis.{Means, Stops, HasFirstFault};
+ghost use Rattle.tool_top.specs.Interpret.{subject_of};
 ghost use Rattle.tool_top.specs.Lines.{line_of};
 
 use crate::analysis::{analyse, first_fault_is_one, nowhere};
 use crate::command::{Command, command_of};
+use crate::fetch::fetch_text;
+use crate::interpreting::{Interpreted, interpret_file};
 use crate::outcome::{Outcome, RefusalKind, Tool};
 use crate::tell::tell;
 use c99_print::{print_header, print_source, printed_texts_are_spelled};
 use c99_read::texts_spell_one_unit;
 use c99_tree::Unit;
+use extern_rows::leaf_name;
 use recursion_check::Sound;
 use ring_codegen::generate;
-use sm_io::{Failed, FetchFault, Name, Shelf, Sink, Source, VecSink};
+use sm_io::{Failed, Name, Shelf, Sink, Source, VecSink};
 use std::alloc::{AllocError, Global};
 use stream_lib::lower;
-
-// The most bytes of a specification.
-const TEXT_LIMIT: usize = 1_048_576;
 
 // Both texts of a unit, in memory.
 #[derive(Drop)]
@@ -61,26 +62,6 @@ fn file_name(alloc: Global, name: &str, end: &str) -> Result<String, AllocError>
     let mut file = String::from_str(alloc, name)?;
     file.push_str(end)?;
     Ok(file)
-}
-
-// Fetches the text of a specification, or tells how the run stops.
-fn fetch_text<F: Shelf>(alloc: Global, spec: &str, shelf: &mut F) -> Result<Vec<u8>, Outcome>
-    ensures same { F.files shelf.new ≡ F.files shelf.old }
-    ensures later { F.faults shelf.old ≤ F.faults shelf.new }
-    ensures ok { IfOk result (λ text. IfSome (F.files shelf.old) (λ m. contents m (text_file spec.now) ≡ Ok (text.items ∷ []))) }
-    ensures err { IfErr result (λ stop. IfSome (F.files shelf.old) (λ m. (name : List ℕ) → StopsAt (compile spec.now name) (contents m (text_file spec.now)) stop)) }
-    ensures possible { IfErr result IsFileAnswer }
-    ensures steady { OnOk result (F.faults shelf.new ≡ F.faults shelf.old) }
-    ensures faults { IfErr result (TellsShelfFaults (F.faults shelf.old) (F.faults shelf.new)) }
-    ensures write { IfErr result (λ stop. ¬ stop ≡ Outcome.WriteFault) }
-{
-    match shelf.fetch(alloc, spec, TEXT_LIMIT) {
-        Ok(text) => Ok(text),
-        Err(FetchFault::Missing) => Err(Outcome::Missing),
-        Err(FetchFault::TooLong) => Err(nowhere(RefusalKind::TextTooLong)),
-        Err(FetchFault::Failed) => Err(Outcome::ReadFault),
-        Err(FetchFault::Memory) => Err(Outcome::NoMemory),
-    }
 }
 
 // Puts the header and then the source.
@@ -165,6 +146,16 @@ fn compile<F: Shelf>(alloc: Global, spec: &str, name: &str, shelf: &mut F) -> Ou
     }
 }
 
+// What the line of an interpretation speaks of: the leaf of a bad row, or else the file.
+fn subject<'a>(spec: &'a str, told: &'a Interpreted) -> &'a [u8]
+    ensures { result.now ≡ subject_of spec.now told.now.outcome told.now.leaves.items }
+{
+    match &told.outcome {
+        Outcome::BadRow { fault, .. } => leaf_name(&told.leaves, fault),
+        _ => spec.as_bytes(),
+    }
+}
+
 /// Runs a tool over the words after its name. `input` is standard input, `out` standard output, `err` standard error
 /// and `shelf` the folder of the files. A failing write to `err` changes no answer.
 pub fn run_tool<S: Source, K: Sink, E: Sink, F: Shelf>(
@@ -201,6 +192,12 @@ pub fn run_tool<S: Source, K: Sink, E: Sink, F: Shelf>(
             let outcome = compile(alloc, spec, name, shelf);
             let _ = tell(tool, spec.as_bytes(), &outcome, err);
             outcome
+        }
+        Command::Interpret { spec } => {
+            first_fault_is_one();
+            let told = interpret_file(alloc, spec, input, out, shelf);
+            let _ = tell(tool, subject(spec, &told), &told.outcome, err);
+            told.outcome
         }
         Command::NoCommand => {
             let outcome = Outcome::Usage;

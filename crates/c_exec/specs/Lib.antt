@@ -1,0 +1,15 @@
+pub mod PileOf
+pub mod Piles
+pub mod Runs
+pub mod WordNumbers
+pub mod Codes
+pub mod CodeLaws
+pub mod Going
+pub mod Logs
+pub mod Called
+pub mod Layout
+pub mod Resolving
+pub mod Needs
+pub mod Machine
+pub mod Inside
+pub mod Rests

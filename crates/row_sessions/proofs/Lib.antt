@@ -1,0 +1,12 @@
+pub mod StepsOfRows
+pub mod LineEnds
+pub mod Pushes
+pub mod Going
+pub mod Parts
+pub mod PartAnswers
+pub mod PieceParts
+pub mod ReadPieces
+pub mod Sent
+pub mod Beyond
+pub mod Passing
+pub mod SentFronts

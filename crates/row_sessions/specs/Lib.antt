@@ -1,0 +1,4 @@
+pub mod Stepping
+pub mod Session
+pub mod Standing
+pub mod Letters

@@ -1,0 +1,10 @@
+pub mod Seen
+pub mod Room
+pub mod Reading
+pub mod Branches
+pub mod Buffers
+pub mod EventLog
+pub mod Roots
+pub mod Running
+pub mod Standing
+pub mod TestSpecs
