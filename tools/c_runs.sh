@@ -3,6 +3,7 @@
 # compares its calls with the lines of `copilot interpret`, up to the first hazard. Outside the gate.
 # Use: tools/c_runs.sh PROGRAM, where PROGRAM is the proved `copilot`.
 set -eu
+tools=$(cd "$(dirname "$0")" && pwd)
 program=$(cd "$(dirname "$1")" && pwd)/$(basename "$1")
 [ -x "$program" ] || { echo "there is no program $1" >&2; exit 2; }
 work=$(mktemp -d /tmp/c_runs.XXXXXX)
@@ -23,36 +24,9 @@ cat > cases <<'END'
 (spec v (extern a Word8) (extern b Word8) (extern c Word8) (trigger m true (majority a b c) (agreed a b c) (window-max 2 a) (window-sum 2 a)) (trigger k (clock 2 1)))|a,b,c\n1,1,2\n3,4,5\n255,7,7\n
 (spec y (extern p Bool) (trigger a (yesterday p)) (trigger b (weakly-yesterday p)))|p\n1\n0\n1\n
 (spec n (trigger t true -128:Int8 -1:Int64))|k\n1\n
+(spec r (struct P (x (array Word8 2)) (b Bool)) (stream s P ((record P (array 1:Word8 2:Word8) true) (record P (array 3:Word8 4:Word8) false)) (record P (array 5:Word8 (index (field s x) 0:Word32)) (field (drop 1 s) b))) (trigger t true s (field s x)))|k\n1\n1\n1\n1\n1\n
 (spec2 m (extern a Int8) (trigger t (> a 0:Int8) a) (trigger t (< a 5:Int8) 1:Int8))|a\n3\n9\n
 END
-
-# A host: it defines the externs and the handlers of row.h, and steps once for each line of samples. An array's elements
-# stand in the member e of its struct.
-host() {
-    awk '
-    /^extern / { line = $0; sub(/^extern /, "", line); print line }
-    /^void / && !/^void step\(void\);/ {
-        line = $0; sub(/^void /, "", line); name = line; sub(/\(.*/, "", name)
-        types = line; sub(/^[^(]*\(/, "", types); sub(/\);$/, "", types)
-        n = types == "void" ? 0 : split(types, t, /, */); params = ""; prints = ""
-        for (i = 1; i <= n; i++) {
-            params = params (i > 1 ? ", " : "") t[i] " a" i
-            if (t[i] == "bool") prints = prints sprintf(" printf(\" %%s\", a%d ? \"true\" : \"false\");", i)
-            else if (t[i] ~ /^u/) prints = prints sprintf(" printf(\" %%llu\", (unsigned long long)a%d);", i)
-            else prints = prints sprintf(" printf(\" %%lld\", (long long)a%d);", i)
-        }
-        if (n == 0) params = "void"
-        printf "void %s(%s) { printf(\"%%lu %s\", now);%s printf(\"\\n\"); }\n", name, params, name, prints
-    }
-    BEGIN { print "#include <stdio.h>\n#include \"row.h\"\nstatic unsigned long now;" }' row.h
-    awk -F, -v steps="$1" '
-    NR == 1 { for (i = 1; i <= NF; i++) { c[i] = $i; gsub(/\[/, ".e[", c[i]) } n = NF; print "int main(void)\n{" }
-    NR > 1 && NR <= steps + 1 {
-        for (i = 1; i <= n; i++) if (c[i] != "k") print "  " c[i] " = " ($i == "-2147483648" ? "(-2147483647 - 1)" : $i) ";"
-        print "  step();\n  now++;"
-    }
-    END { print "  return 0;\n}" }' rows.csv
-}
 
 count=0
 while IFS='|' read -r text samples; do
@@ -61,7 +35,7 @@ while IFS='|' read -r text samples; do
     "$program" compile row.spec row
     steps=$(($(wc -l < rows.csv) - 1))
     "$program" interpret row.spec < rows.csv > wanted 2> line || steps=$(sed -n 's/^hazard: .* at step //p' line)
-    host "$steps" > host.c
+    awk -v steps="$steps" -v header=row.h -f "$tools/host.awk" row.h rows.csv > host.c
     for cc in gcc clang; do
         "$cc" -std=c99 -w -fsanitize=undefined -fno-sanitize-recover=all host.c row.c -o host
         ./host > calls
