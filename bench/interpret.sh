@@ -1,6 +1,7 @@
 #!/bin/sh
-# Rows a second of `copilot interpret` over three workloads, at 10,000 and at 1,000,000 rows (the third at a tenth of
-# these), and the resident memory. Outside the gate. Use: bench/interpret.sh PROGRAM, where PROGRAM is the proved `copilot`.
+# Rows a second of `copilot interpret` and of `copilot cexec` on the compiled files over three workloads, at 10,000 and at
+# 1,000,000 rows (the third at a tenth of these), and the resident memory; and whether both write the same. Outside the
+# gate. Use: bench/interpret.sh PROGRAM, where PROGRAM is the proved `copilot`.
 set -eu
 program=$(cd "$(dirname "$1")" && pwd)/$(basename "$1")
 [ -x "$program" ] || { echo "there is no program $1" >&2; exit 2; }
@@ -20,17 +21,25 @@ awk -v k=200 'BEGIN { printf "(spec demo"
     for (i = 0; i < k; i++) printf " (trigger h%d (== (rem s%d 7:Word32) 0:Word32) s%d)", i, i, i
     print ")" }' > demo.spec
 
-# runs a specification over so many rows of a column
+# runs a command over the rows, and prints its speed
 measure() {
-    awk -v c="$2" -v n="$3" 'BEGIN { print c; for (i = 0; i < n; i++) print i % 40 }' > rows.csv
     begin=$(date +%s%N)
-    /usr/bin/env time -f %M -o memory "$program" interpret "$1.spec" < rows.csv > events || true
+    /usr/bin/env time -f %M -o memory "$program" "$2" "$3" < rows.csv > "$2.out" || true
     end=$(date +%s%N)
-    awk -v name="$1" -v n="$3" -v ns=$((end - begin)) -v events="$(wc -l < events)" -v kb="$(tail -n 1 memory 2> /dev/null || echo unknown)" \
-        'BEGIN { printf "%-8s %8d rows: %9.0f rows a second, %d lines, %s KB resident\n", name, n, n * 1e9 / ns, events, kb }'
+    awk -v name="$1" -v command="$2" -v n="$4" -v ns=$((end - begin)) -v lines="$(wc -l < "$2.out")" -v kb="$(tail -n 1 memory 2> /dev/null || echo unknown)" \
+        'BEGIN { printf "%-8s %-9s %8d rows: %9.0f rows a second, %d lines, %s KB resident\n", name, command, n, n * 1e9 / ns, lines, kb }'
 }
+
+# both commands over so many rows of a column
+both() {
+    awk -v c="$2" -v n="$3" 'BEGIN { print c; for (i = 0; i < n; i++) print i % 40 }' > rows.csv
+    measure "$1" interpret "$1.spec" "$3"
+    measure "$1" cexec "$1" "$3"
+    cmp interpret.out cexec.out
+}
+for name in heater counter demo; do "$program" compile $name.spec $name; done
 for n in 10000 1000000; do
-    measure heater temp $n
-    measure counter k $n
-    measure demo k $((n / 10))
+    both heater temp $n
+    both counter k $n
+    both demo k $((n / 10))
 done

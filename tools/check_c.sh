@@ -1,6 +1,7 @@
 #!/bin/sh
 # Compiles the C of every example with gcc and clang, runs it under -fsanitize=undefined over the example's samples up to
-# the first hazard, and compares its calls with those of `copilot interpret`. A compiler that isn't there is passed over.
+# the first hazard, and compares its calls with those of `copilot interpret`; so does it with those of `copilot cexec`. A
+# compiler that isn't there is passed over.
 # Use: tools/check_c.sh PROGRAM, where PROGRAM is the proved `copilot`. It runs behind `rt ci` in .ci/run.
 set -eu
 tools=$(cd "$(dirname "$0")" && pwd)
@@ -16,6 +17,9 @@ for spec in "$tools"/../examples/*/*.spec; do
     steps=$(($(wc -l < rows.csv) - 1))
     "$program" interpret "$name.spec" < rows.csv > events 2> line || steps=$(sed -n 's/^hazard: .* at step //p' line)
     sed '/^[0-9]* =/d' events > wanted
+    head -n $((steps + 1)) rows.csv > clean.csv
+    "$program" cexec "$name" < clean.csv > executed
+    diff wanted executed
     awk -v steps="$steps" -v header="$name.h" -f "$tools/host.awk" "$name.h" rows.csv > host.c
     for cc in gcc clang; do
         command -v $cc > /dev/null || { echo "no $cc: $name isn't compiled with it"; continue; }

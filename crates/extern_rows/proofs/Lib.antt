@@ -12,3 +12,4 @@ pub mod EntryParts
 pub mod ValuePieces
 pub mod FaultLeaves
 pub mod FaultShows
+pub mod PlainLines

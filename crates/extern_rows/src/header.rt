@@ -151,7 +151,7 @@ impl Header {
         ensures count { IfOk result (λ header. length header.wanted ≡ length leaves.now) }
         ensures scalars { IfOk result (λ header. wanted_scalars header.wanted ≡ scalars_of leaves.now) }
     {
-        let record = read_record(alloc, line)?;
+        let record = read_record(alloc, line, leaves.len())?;
         let wanted = find_leaves(alloc, &record, leaves)?;
         Ok(Header {
             width: record.len(),
@@ -166,7 +166,7 @@ impl Header {
         ensures reads { ReadsRow self.now line.now out.new result }
         ensures words { IfOk result (λ _. AreWords (wanted_scalars self.now.wanted) out.new) }
     {
-        let record = read_record(alloc, line)?;
+        let record = read_record(alloc, line, self.width)?;
         if record.len() != self.width {
             return Err(RowFault::BadRecord);
         }

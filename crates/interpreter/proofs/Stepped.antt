@@ -113,7 +113,7 @@ module _ (s : SpecValue) (m : MonitorValue) (shapes : ShapesValue) (time : ℕ) 
       let text : List Event → List ℕ = flat_map (line_of_event (trees s) time) in
       let t = subst (λ (es : List Event). WritesText k k' f f' false (text es)) same w in
       subst (λ (r : Result (List ℕ) Hazard). IsStep r (output k f) (output k' f') (Err Failed)) (sym (went s m shapes time rows st row fits events is))
-      (record { count = t.front.0; part = t.front.1; failed = t.failed })
+      (record { count = t.front.0; part = t.front.1; failed = (t.later, t.failed) })
 
   pub next_stands : (n : MonitorValue) → StandsFor n after_rows → n.spec ≡ m.spec → Interprets s n shapes (time + 1) after_rows
   next_stands n stands is = next s m shapes time rows st row fits n stands is

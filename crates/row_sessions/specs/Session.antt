@@ -134,9 +134,13 @@ abbrev pub RunsSession : {F : Type 0} → Sessions F → Streams → Streams →
 RunsSession sessions before after ending =
     IfSome before.left (λ whole. (taken : List ℕ) × Took after whole taken × EndsSession sessions whole taken before.taken after.taken ending)
 
+-- The count has not fallen, and is higher now or stands at its last value.
+abbrev pub HasFailed : ℕ → ℕ → Type 0
+HasFailed before after = (before ≤ after) × Rose before after
+
 -- A fault of reading is told only where the input failed, and a fault of writing only where the output did. No other
 -- count changes.
 abbrev pub TellsFaults : {F : Type 0} → Streams → Streams → Ending F → Type 0
-TellsFaults before after ReadFault = Rose before.input_faults after.input_faults × (after.out_faults ≡ before.out_faults)
-TellsFaults before after WriteFault = (after.input_faults ≡ before.input_faults) × Rose before.out_faults after.out_faults
+TellsFaults before after ReadFault = HasFailed before.input_faults after.input_faults × (after.out_faults ≡ before.out_faults)
+TellsFaults before after WriteFault = (after.input_faults ≡ before.input_faults) × HasFailed before.out_faults after.out_faults
 TellsFaults before after ending = (after.input_faults ≡ before.input_faults) × (after.out_faults ≡ before.out_faults)

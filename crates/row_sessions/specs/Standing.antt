@@ -1,7 +1,6 @@
 -- Where a session stands between two lines, and what a line adds to it.
 use Rattle.std.specs.Prelude.{◌≡◌, ◌⊎◌, ℕ, ◌+◌, ◌*◌, ◌<◌, ◌≤◌, Bool, true, false, if◌then◌else◌, List, [], ◌∷◌, ◌++◌, length, All, Option, Some, None, IfSome, IfErr, OnOk, Result, Ok, Err, take}
 use Rattle.sm_io.specs.Known.{before_known, after_known}
-use Rattle.sm_io.specs.Causes.{Rose}
 use Rattle.extern_rows.specs.declared.fault.RowFault.{RowFault}
 use Rattle.extern_rows.specs.declared.fault.RowFault.TheVariants.{Memory}
 use Rattle.extern_rows.specs.declared.header.Leaf.{Leaf}
@@ -10,7 +9,7 @@ use Rattle.extern_rows.specs.Feeding.{Feeding}
 use Rattle.extern_rows.specs.Leaves.{scalars_of}
 use Rattle.extern_rows.specs.Lines.{is_break, is_blank, parts, first_line, last_line, longest_line}
 use Rattle.extern_rows.specs.SampleRows.{RowAt, FaultAt, Rows, rows_from}
-use Rattle.row_sessions.specs.Session.{SessionStep, Session, row_stop, after_step, text_of_steps, machine_sessions, WroteFront, EndsSession}
+use Rattle.row_sessions.specs.Session.{SessionStep, Session, row_stop, after_step, text_of_steps, machine_sessions, WroteFront, EndsSession, HasFailed}
 use Rattle.row_sessions.specs.Stepping.{Output, output, WritesAll, WritesPart, WritesNothing}
 use Rattle.row_sessions.specs.declared.ending.Ending.{Ending}
 use Rattle.row_sessions.specs.declared.ending.Ending.TheVariants.{Done, Stopped, BadRow, ReadFault, WriteFault, NoMemory}
@@ -224,16 +223,16 @@ reach f = f.number * (longest_line + 1) + length f.line
 
 -- No fault of writing is told without its cause, and none of reading.
 abbrev pub TellsWrite : {T F : Type 0} → ℕ → ℕ → Result T (Ending F) → Type 0
-TellsWrite before after (Err WriteFault) = Rose before after
+TellsWrite before after (Err WriteFault) = HasFailed before after
 TellsWrite before after (Err ReadFault) = ⊥
 TellsWrite before after (Err Done) = ⊥
 TellsWrite before after result = after ≡ before
 
 -- The same, where the input may have failed too.
 abbrev pub InputTells : {F : Type 0} → ℕ → ℕ → ℕ → ℕ → Result (Unit {0}) (Ending F) → Type 0
-InputTells input input' before after (Err ReadFault) = Rose input input' × (after ≡ before)
+InputTells input input' before after (Err ReadFault) = HasFailed input input' × (after ≡ before)
 InputTells input input' before after (Err Done) = ⊥
-InputTells input input' before after (Err WriteFault) = (input' ≡ input) × Rose before after
+InputTells input input' before after (Err WriteFault) = (input' ≡ input) × HasFailed before after
 InputTells input input' before after result = (input' ≡ input) × (after ≡ before)
 
 -- what the end of the input answers

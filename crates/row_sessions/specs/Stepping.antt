@@ -1,7 +1,7 @@
 -- What a machine's step does.
 use Rattle.std.specs.Prelude.{◌≡◌, ◌<◌, ℕ, List, ◌++◌, length, take, Option, Result, Ok, Err}
 use Rattle.sm_io.specs.Known.{after_known}
-use Rattle.sm_io.specs.Causes.{Rose}
+use Rattle.row_sessions.specs.Session.{HasFailed}
 use Rattle.extern_rows.specs.Lines.{last_line}
 use Rattle.row_sessions.specs.declared.ending.Stop.{Stop}
 use Rattle.row_sessions.specs.declared.ending.Stop.TheVariants.{Fault, Failed}
@@ -27,14 +27,14 @@ pub record WritesAll (before after : Output) (text : List ℕ) : Type 0 where
 pub record WritesPart (before after : Output) (text : List ℕ) : Type 0 where
   pub count : ℕ
   pub part : after.taken ≡ after_known before.taken (take count text)
-  pub failed : Rose before.faults after.faults
+  pub failed : HasFailed before.faults after.faults
 
 -- The same, and not all of them were.
 pub record WritesShort (before after : Output) (text : List ℕ) : Type 0 where
   pub count : ℕ
   pub short : count < length text
   pub part : after.taken ≡ after_known before.taken (take count text)
-  pub failed : Rose before.faults after.faults
+  pub failed : HasFailed before.faults after.faults
 
 -- All of a text was written, or not all.
 abbrev pub Flushes : {E : Type 0} → Output → Output → List ℕ → Result (Unit {0}) E → Type 0

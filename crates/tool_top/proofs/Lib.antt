@@ -5,6 +5,12 @@ pub mod Programs
 pub mod Stopping
 pub mod OneFault
 pub mod Settled
+pub mod Stepped
+pub mod OneCompile
 pub mod SessionsRun
 pub mod OneSession
+pub mod ReadPrograms
+pub mod OneProgram
+pub mod OneExecution
+pub mod OneMigration
 pub mod OneOutcome

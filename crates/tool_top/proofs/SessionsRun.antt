@@ -1,25 +1,27 @@
 -- How an interpretation ends.
-use Rattle.std.specs.Prelude.{◌≡◌, ◌≤◌, ◌⊎◌, ℕ, Bool, true, List, [], ◌∷◌, Option, Some, None, Result, Ok, Err, IfSome, IfErr}
-use Rattle.std.proofs.Common.{sym, subst, refl, ap, ◌∙◌, inl, inr}
+use Rattle.std.specs.Prelude.{◌≡◌, ◌≤◌, ℕ, List, [], ◌∷◌, Option, Some, None, Result, Ok, Err, IfSome, IfErr}
+use Rattle.std.proofs.Common.{sym, subst, ap, ◌∙◌}
 use Rattle.sm_io.specs.Files.{Files}
 use Rattle.stream_types.specs.declared.scalar.Hazard.{Hazard as HazardKind}
 use Rattle.stream_core.specs.Value.{SpecValue}
-use Rattle.stream_core.specs.Term.{TreeSpec, trees}
+use Rattle.stream_core.specs.Term.{trees}
 use Rattle.extern_rows.specs.declared.header.Leaf.{Leaf}
 use Rattle.row_sessions.specs.Session as session
-use Rattle.row_sessions.specs.Session.{RunsSession, SessionStop, Sessions}
+use Rattle.row_sessions.specs.Session.{RunsSession}
 use Rattle.row_sessions.specs.declared.ending.Ending.{Ending}
 use Rattle.row_sessions.specs.declared.ending.Ending.TheVariants as ending
-use Rattle.interpreter.specs.Interpreted.{columns_of, extern_columns, interpreted, interpreted_by}
+use Rattle.interpreter.specs.Interpreted.{columns_of, extern_columns, interpreted}
 use Rattle.tool_top.specs.Analysis.{Analyses, Means, Stops, HasFirstFault}
-use Rattle.tool_top.specs.Answer.{IsInterpretAnswer, IsRefusal, StopsAt, TellsFaults}
+use Rattle.tool_top.specs.Answer.{IsInterpretAnswer, IsRefusal, StopsAt}
 use Rattle.tool_top.specs.Command.{compile, interpret}
-use Rattle.tool_top.specs.Interpret.{EndsAs, Interprets, IsReadAs, NamesLeaves, RunsInterpret, outcome_of, streams_of}
-use Rattle.tool_top.specs.Outside.{Outside, InputFailed, OutFailed, ShelfFailed, StreamsStand}
+use Rattle.tool_top.specs.Interpret.{IsReadAs, NamesLeaves, RunsInterpret}
+use Rattle.tool_top.specs.Outside.{Outside}
+use Rattle.tool_top.specs.Sessions.{streams_of, told_as}
 use Rattle.tool_top.specs.Wanted.{Unread, contents, text_file}
 use Rattle.tool_top.specs.declared.outcome.Outcome.{Outcome}
 use Rattle.tool_top.specs.declared.outcome.Outcome.TheVariants.{Done, Refused, Usage, Hazard, Undefined, BadRow, ReadFault, WriteFault, Missing, NoMemory}
 use Rattle.tool_top.specs.declared.outcome.Refusal.{Refusal}
+use Rattle.tool_top.proofs.Stepped.{IsTelling, steps_ran}
 use Rattle.tool_top.proofs.Stopping.{StopsFor}
 
 -- ---- before the session
@@ -80,7 +82,7 @@ pub one_reading : OneMeaning → (spec : List ℕ) (files : Files) (s t : SpecVa
 one_reading one spec files s t a b =
     one a.text s t a.means (subst (λ text. Means text t) (sym (same_text (contents files (text_file spec)) a.text b.text a.text_is b.text_is)) b.means)
 
-told_possible : (e : Ending HazardKind) → IsInterpretAnswer (outcome_of e)
+told_possible : (e : Ending HazardKind) → IsInterpretAnswer (told_as Hazard e)
 told_possible ending.Done = tt
 told_possible (ending.Stopped step kind) = tt
 told_possible (ending.BadRow line fault) = tt
@@ -88,33 +90,18 @@ told_possible ending.ReadFault = tt
 told_possible ending.WriteFault = tt
 told_possible ending.NoMemory = tt
 
-told_faults : (before after : Outside) (e : Ending HazardKind) → after.shelf_faults ≡ before.shelf_faults → session.TellsFaults (streams_of before) (streams_of after) e
-    → TellsFaults (ShelfFailed before after ⊎ InputFailed before after) (OutFailed before after) before after (outcome_of e)
-told_faults before after ending.Done same h = record { shelf = same; input = h.0; out = h.1 }
-told_faults before after (ending.Stopped step kind) same h = record { shelf = same; input = h.0; out = h.1 }
-told_faults before after (ending.BadRow line fault) same h = record { shelf = same; input = h.0; out = h.1 }
-told_faults before after ending.ReadFault same h = inr h.0
-told_faults before after ending.WriteFault same h = h.1
-told_faults before after ending.NoMemory same h = record { shelf = same; input = h.0; out = h.1 }
-
-ends_as : (spec : List ℕ) (files : Option Files) (s : SpecValue) (before after : Outside) (e : Ending HazardKind)
-    → IfSome files (λ m. IsReadAs spec m s) → RunsSession (interpreted s) (streams_of before) (streams_of after) e → IfSome files (λ m. Interprets spec m before after (outcome_of e))
-ends_as spec None s before after e read runs = tt
-ends_as spec (Some m) s before after e read runs = inr (s, read, record { ending = e; told = refl; runs = runs })
+interpret_tells : IsTelling Hazard IsInterpretAnswer
+interpret_tells = record {
+  possible = told_possible;
+  faultless = λ before after n f h. h;
+}
 
 -- a session ran
-pub ran : (spec : List ℕ) (s : SpecValue) (before after : Outside) (e : Ending HazardKind) (outcome : Outcome) → outcome ≡ outcome_of e
+pub ran : (spec : List ℕ) (s : SpecValue) (before after : Outside) (e : Ending HazardKind) (outcome : Outcome) → outcome ≡ told_as Hazard e
     → after.files ≡ before.files → after.shelf_faults ≡ before.shelf_faults → before.shelf_faults ≤ after.shelf_faults → IfSome before.files (λ m. IsReadAs spec m s)
     → RunsSession (interpreted s) (streams_of before) (streams_of after) e → session.TellsFaults (streams_of before) (streams_of after) e → RunsInterpret spec before after outcome
 ran spec s before after e outcome is files steady later read runs faults =
-    subst (RunsInterpret spec before after) (sym is)
-    (record {
-      possible = told_possible e;
-      answer = ends_as spec before.files s before after e read runs;
-      faults = told_faults before after e steady faults;
-      later = later;
-      files = files;
-    })
+    steps_ran (interpret spec) (IsReadAs spec) interpreted Hazard IsInterpretAnswer interpret_tells s before after e outcome is files steady later read runs faults
 
 leaves_named : OneMeaning → (spec : List ℕ) (m : Files) (s : SpecValue) (outcome : Outcome) (leaves : List Leaf) → leaves ≡ extern_columns s → IsReadAs spec m s → NamesLeaves spec m outcome leaves
 leaves_named one spec m s (BadRow line fault) leaves is read = λ t other. is ∙ ap columns_of (one_reading one spec m s t read other)

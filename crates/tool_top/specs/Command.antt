@@ -64,9 +64,10 @@ value_of_command (command.Ros reqs name) = ros reqs.now name.now
 value_of_command (command.Fprime reqs name) = fprime reqs.now name.now
 value_of_command command.NoCommand = no_command
 
--- the unit that a compile makes has a name
+-- the unit that a command makes has a name
 abbrev pub HasName : CommandValue → Type 0
 HasName (compile spec name) = IsTrue (is_name name)
+HasName (migrate old new) = IsTrue (is_name new)
 HasName _ = Unit {0}
 
 -- ---- the rows of `copilot`

@@ -5,7 +5,12 @@ pub mod Analysis
 pub mod Outside
 pub mod Wanted
 pub mod Puts
+pub mod Programs
 pub mod Answer
+pub mod Putting
 pub mod Compile
-pub mod Runs
+pub mod Migrate
+pub mod Sessions
 pub mod Interpret
+pub mod Execute
+pub mod Runs

@@ -2,6 +2,8 @@
 use Rattle.std.specs.Prelude.{◌≡◌, ℕ, List, [], ◌∷◌, take, slice_get, Option, Some}
 use Rattle.sm_io.specs.Files.{Files, with_file, SameBut}
 use Rattle.tool_top.specs.Command.{header_file, source_file}
+use Rattle.tool_top.specs.declared.outcome.Outcome.{Outcome}
+use Rattle.tool_top.specs.declared.outcome.Outcome.TheVariants.{Done, WriteFault, NoMemory}
 
 -- a file that is put
 pub record Put : Type 0 where
@@ -20,3 +22,10 @@ OnePutFailed puts old new = (k : ℕ) × (p : Put) × (slice_get puts k ≡ Some
 -- the two files of a program
 abbrev pub program_files : List ℕ → List ℕ → List ℕ → List Put
 program_files name header source = record { name = header_file name; text = header } ∷ record { name = source_file name; text = source } ∷ []
+
+-- what the puts leave, by their answer; where memory runs out, nothing was put
+abbrev pub LeavesFiles : List Put → Option Files → Option Files → Outcome → Type 0
+LeavesFiles puts old new Done = new ≡ with_puts old puts
+LeavesFiles puts old new WriteFault = OnePutFailed puts old new
+LeavesFiles puts old new NoMemory = new ≡ old
+LeavesFiles puts old new _ = ⊥

@@ -3,11 +3,15 @@ use Rattle.std.specs.Prelude.{◌≡◌, List, Some, None, IfSome, Ok, ℕ, true
 use Rattle.sm_io.specs.Files.{Files}
 use Rattle.tool_top.specs.Analysis.{nowhere}
 use Rattle.tool_top.specs.Answer.{IsRefusedFor, IsQuiet, IsFinished, IsSettled, IsEarly}
-use Rattle.tool_top.specs.Command.{CommandValue, compile, interpret, cexec, demo, no_command}
-use Rattle.stream_core.specs.Value.{SpecValue}
+use Rattle.tool_top.specs.Command.{CommandValue, compile, interpret, cexec, demo, migrate, no_command}
+use Rattle.row_sessions.specs.Session.{Sessions}
 use Rattle.interpreter.specs.Interpreted.{interpreted}
+use Rattle.c_runner.specs.Executed.{executed}
 use Rattle.tool_top.specs.Compile.{RunsCompile}
+use Rattle.tool_top.specs.Migrate.{RunsMigrate}
 use Rattle.tool_top.specs.Interpret.{RunsInterpret, IsReadAs}
+use Rattle.tool_top.specs.Execute.{RunsExecute}
+use Rattle.tool_top.specs.Programs.{IsUnitIn}
 use Rattle.tool_top.specs.Outside.{Outside}
 use Rattle.tool_top.specs.Wanted.{wanted, contents}
 use Rattle.tool_top.specs.declared.outcome.Outcome.{Outcome}
@@ -20,6 +24,8 @@ use Rattle.tool_top.specs.declared.outcome.RefusalKind.TheVariants as kind
 abbrev pub Runs : CommandValue → Outside → Outside → Outcome → Type 0
 Runs (compile spec name) before after outcome = RunsCompile spec name before after outcome
 Runs (interpret spec) before after outcome = RunsInterpret spec before after outcome
+Runs (cexec name) before after outcome = RunsExecute name before after outcome
+Runs (migrate old new) before after outcome = RunsMigrate old new before after outcome
 Runs no_command before after outcome = (outcome ≡ Usage) × (after ≡ before)
 Runs _ before after outcome = (outcome ≡ Refused (nowhere kind.NotYet)) × (after ≡ before)
 
@@ -29,6 +35,8 @@ Runs _ before after outcome = (outcome ≡ Refused (nowhere kind.NotYet)) × (af
 abbrev pub IsIdle : CommandValue → Type 0
 IsIdle (compile spec name) = ⊥
 IsIdle (interpret spec) = ⊥
+IsIdle (cexec name) = ⊥
+IsIdle (migrate old new) = ⊥
 IsIdle _ = Unit {0}
 
 -- a run that takes no byte from the input, and one that writes none to the output
@@ -51,14 +59,21 @@ pub record IsAccepted (command : CommandValue) (files : Files) : Type 0 where
   pub texts_are : contents files (wanted command) ≡ Ok texts
   pub fine : (refusal : Refusal) → ¬ IsRefusedFor command texts refusal
 
--- What is accepted is done where none of the command's failures came, or memory ran out; an interpretation where also
--- its session has no stop.
+-- What is accepted is done where none of the command's failures came, or memory ran out; a session where also it has no
+-- stop.
+abbrev pub PutsAccepted : CommandValue → Outside → Outside → Outcome → Type 0
+PutsAccepted row before after outcome = IfSome before.files (λ files. IsQuiet row before after → IsAccepted row files → IsFinished outcome)
+
+abbrev pub StepsAccepted : {X F : Type 0} → CommandValue → (Files → X → Type 0) → (X → Sessions F) → Outside → Outside → Outcome → Type 0
+StepsAccepted {X} row Holds sessions before after outcome =
+    IfSome before.files (λ files. IsQuiet row before after → (x : X) → Holds files x
+    → IfSome before.left (λ whole. (sessions x whole true).stop ≡ None → IsFinished outcome))
+
 abbrev pub Completes : CommandValue → Outside → Outside → Outcome → Type 0
-Completes (compile spec name) before after outcome =
-    IfSome before.files (λ files. IsQuiet (compile spec name) before after → IsAccepted (compile spec name) files → IsFinished outcome)
-Completes (interpret spec) before after outcome =
-    IfSome before.files (λ files. IsQuiet (interpret spec) before after → (s : SpecValue) → IsReadAs spec files s
-    → IfSome before.left (λ whole. (interpreted s whole true).stop ≡ None → IsFinished outcome))
+Completes (compile spec name) before after outcome = PutsAccepted (compile spec name) before after outcome
+Completes (migrate old new) before after outcome = PutsAccepted (migrate old new) before after outcome
+Completes (interpret spec) before after outcome = StepsAccepted (interpret spec) (IsReadAs spec) interpreted before after outcome
+Completes (cexec name) before after outcome = StepsAccepted (cexec name) (IsUnitIn name) executed before after outcome
 Completes _ before after outcome = Unit {0}
 
 -- ---- one outcome

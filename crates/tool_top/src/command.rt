@@ -146,7 +146,8 @@ fn demo_numbers(word: &[u8], streams: &[u8], steps: &[u8]) -> Option<(u32, u32)>
 }
 
 fn is_migrate(word: &[u8], old: &[u8], new: &[u8]) -> bool
-    ensures { result ≡ is_migrate word.now old.now new.now }
+    ensures value { result ≡ is_migrate word.now old.now new.now }
+    ensures named { IsTrue result → IsTrue (is_name new.now) }
 {
     if !is_word(word, b"migrate") {
         return false;

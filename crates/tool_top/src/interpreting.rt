@@ -7,7 +7,8 @@ ghost use Rattle.tool_top.specs.Command.{interpret};
 ghost use Rattle.tool_top.specs.Outside.{outside};
 ghost use Rattle.tool_top.specs.Wanted.{text_file, contents};
 ghost use Rattle.tool_top.specs.Answer.{IsEarly, IsStop, StopsAt, TellsShelfFaults};
-ghost use Rattle.tool_top.specs.Interpret.{IsReadAs, RunsInterpret, outcome_of, NamesLeaves};
+ghost use Rattle.tool_top.specs.Interpret.{IsReadAs, RunsInterpret, NamesLeaves};
+ghost use Rattle.tool_top.specs.Sessions.{told_as};
 
 use crate::analysis::{analyse, first_fault_is_one};
 use crate::fetch::fetch_text;
@@ -46,7 +47,7 @@ fn fetch_spec<F: Shelf>(alloc: Global, spec: &str, shelf: &mut F) -> Result<Soun
 
 // What the end of a session is told as.
 fn outcome_of(ending: Ending<Hazard>) -> Outcome
-    ensures { result ≡ outcome_of ending }
+    ensures { result ≡ told_as Outcome.Hazard ending }
 {
     match ending {
         Ending::Done => Outcome::Done,

@@ -6,11 +6,16 @@
 
 mod analysis;
 mod command;
+mod compiling;
+mod executing;
 mod fetch;
 mod interpreting;
+mod migrating;
 mod outcome;
+mod puts;
 mod tell;
 mod top;
+mod unit_files;
 
 pub use outcome::{Outcome, Refusal, RefusalKind, Tool};
 pub use top::{outcome_is_one, run_tool};
@@ -18,6 +23,10 @@ pub use top::{outcome_is_one, run_tool};
 #[cfg(test)]
 mod compiled_tests;
 #[cfg(test)]
+mod executed_tests;
+#[cfg(test)]
 mod interpreted_tests;
+#[cfg(test)]
+mod migrated_tests;
 #[cfg(test)]
 mod tests;

@@ -1,158 +1,33 @@
 // The top call.
-ghost use Rattle.std.specs.Prelude.{◌≡◌, ◌≤◌, ◌++◌, ◌∷◌, [], ℕ, List, Bool, IfErr, map, IfOk, OnOk, OnErr, IfSome, IsTrue, string_bytes, Ok};
-ghost use Rattle.sm_io.specs.Causes.{HasCause};
+ghost use Rattle.std.specs.Prelude.{◌≡◌, ℕ, List, Bool, map, string_bytes};
 ghost use Rattle.sm_io.specs.Written.{WritesText};
-ghost use Rattle.sm_io.specs.Words.{is_name};
-ghost use Rattle.c99_tree.specs.Spelling.{Spells};
-ghost use Rattle.c99_tree.specs.WellFormed.{IsWellFormed};
-ghost use Rattle.tool_top.specs.Command.{command_of, compile};
+ghost use Rattle.tool_top.specs.Command.{command_of};
 ghost use Rattle.tool_top.specs.Outside.{outside};
-ghost use Rattle.tool_top.specs.Wanted.{text_file, contents};
-ghost use Rattle.tool_top.specs.Puts.{Put, with_puts, OnePutFailed};
-ghost use Rattle.tool_top.specs.Answer.{StopsAt, TellsShelfFaults, IsFileAnswer, Names};
-ghost use Rattle.tool_top.specs.Compile.{Compiles, IsProgramOf, IsProgramFor};
+ghost use Rattle.tool_top.specs.Answer.{Names};
 ghost use Rattle.tool_top.specs.Runs.{Runs, IsIdle, LeavesInput, LeavesOut, Completes, HasOneOutcome};
-ghost use Rattle.tool_top.specs.Analysis.{Means, Stops, HasFirstFault};
 ghost use Rattle.tool_top.specs.Interpret.{subject_of};
 ghost use Rattle.tool_top.specs.Lines.{line_of};
 
-use crate::analysis::{analyse, first_fault_is_one, nowhere};
+use crate::analysis::{first_fault_is_one, nowhere};
 use crate::command::{Command, command_of};
-use crate::fetch::fetch_text;
-use crate::interpreting::{Interpreted, interpret_file};
+use crate::compiling::compile;
+use crate::executing::execute_files;
+use crate::interpreting::interpret_file;
+use crate::migrating::migrate_files;
 use crate::outcome::{Outcome, RefusalKind, Tool};
 use crate::tell::tell;
-use c99_print::{print_header, print_source, printed_texts_are_spelled};
 use c99_read::texts_spell_one_unit;
-use c99_tree::Unit;
-use extern_rows::leaf_name;
-use recursion_check::Sound;
-use ring_codegen::generate;
-use sm_io::{Failed, Name, Shelf, Sink, Source, VecSink};
-use std::alloc::{AllocError, Global};
-use stream_lib::lower;
+use extern_rows::{Leaf, leaf_name};
+use sm_io::{Shelf, Sink, Source};
+use std::alloc::Global;
 
-// Both texts of a unit, in memory.
-#[derive(Drop)]
-struct Texts {
-    header: VecSink,
-    source: VecSink,
-}
-
-fn make_texts(alloc: Global, unit: &Unit) -> Result<Texts, AllocError>
-    requires { IsWellFormed unit.now }
-    ensures { IfOk result (λ t. Spells unit.now t.header.taken t.source.taken) }
+// What the line of a session speaks of: the leaf of a bad row, or else the file.
+fn subject<'a>(file: &'a [u8], outcome: &'a Outcome, leaves: &'a [Leaf]) -> &'a [u8]
+    ensures { result.now ≡ subject_of file.now outcome.now leaves.now }
 {
-    printed_texts_are_spelled();
-    let mut header = VecSink::new(alloc);
-    if print_header(unit, &mut header).is_err() {
-        return Err(AllocError);
-    }
-    let mut source = VecSink::new(alloc);
-    if print_source(unit, &mut source).is_err() {
-        return Err(AllocError);
-    }
-    Ok(Texts { header, source })
-}
-
-// The name of a file.
-fn file_name(alloc: Global, name: &str, end: &str) -> Result<String, AllocError>
-    ensures { IfOk result (λ s. string_bytes s ≡ name.now ++ end.now) }
-{
-    let mut file = String::from_str(alloc, name)?;
-    file.push_str(end)?;
-    Ok(file)
-}
-
-// Puts the header and then the source.
-fn put_both<F: Shelf>(
-    header: &str,
-    source: &str,
-    texts: &Texts,
-    shelf: &mut F,
-) -> Result<(), Failed>
-    ensures done { OnOk result (F.files shelf.new ≡ with_puts (F.files shelf.old)
-        (record { name = header.now; text = texts.now.header.taken } ∷ record { name = source.now; text = texts.now.source.taken } ∷ [])) }
-    ensures failed { OnErr result (OnePutFailed
-        (record { name = header.now; text = texts.now.header.taken } ∷ record { name = source.now; text = texts.now.source.taken } ∷ [])
-        (F.files shelf.old) (F.files shelf.new)) }
-    ensures cause { HasCause (F.faults shelf.old) (F.faults shelf.new) result }
-{
-    shelf.put(header, texts.header.taken())?;
-    shelf.put(source, texts.source.taken())
-}
-
-// The name of a unit.
-fn unit_name(alloc: Global, name: &str) -> Result<Name, AllocError>
-    requires { IsTrue (is_name name.now) }
-    ensures { IfOk result (λ unit. unit ≡ name.now) }
-{
-    Ok(Name::new(name.as_bytes().to_vec(alloc)?))
-}
-
-// Both texts of the program of a specification.
-fn program_texts(alloc: Global, spec: &Sound, name: &str) -> Result<Texts, AllocError>
-    requires named { IsTrue (is_name name.now) }
-    requires means { (text : List ℕ) × Means text spec.now }
-    ensures { IfOk result (λ t. IsProgramOf spec.now name.now t.header.taken t.source.taken) }
-{
-    texts_spell_one_unit();
-    let name = unit_name(alloc, name)?;
-    let plain = lower(alloc, spec)?;
-    let unit = generate(alloc, &plain, &name)?;
-    make_texts(alloc, &unit)
-}
-
-// Both texts of the program of a specification's text, or how the run stops.
-fn compiled(alloc: Global, text: &[u8], name: &str) -> Result<Texts, Outcome>
-    requires named { IsTrue (is_name name.now) }
-    ensures ok { IfOk result (λ t. IsProgramFor text.now name.now t.header.taken t.source.taken) }
-    ensures err { IfErr result (λ stop. Stops (HasFirstFault text.now) stop) }
-{
-    let spec = match analyse(alloc, text) {
-        Ok(spec) => spec,
-        Err(stop) => return Err(stop),
-    };
-    match program_texts(alloc, &spec, name) {
-        Ok(texts) => Ok(texts),
-        Err(AllocError) => Err(Outcome::NoMemory),
-    }
-}
-
-fn compile<F: Shelf>(alloc: Global, spec: &str, name: &str, shelf: &mut F) -> Outcome
-    requires named { IsTrue (is_name name.now) }
-    ensures answer { IfSome (F.files shelf.old) (λ m. Compiles spec.now name.now m (F.files shelf.new) result) }
-    ensures possible { IsFileAnswer result }
-    ensures faults { TellsShelfFaults (F.faults shelf.old) (F.faults shelf.new) result }
-    ensures later { F.faults shelf.old ≤ F.faults shelf.new }
-{
-    let text = match fetch_text(alloc, spec, shelf) {
-        Ok(text) => text,
-        Err(outcome) => return outcome,
-    };
-    let texts = match compiled(alloc, &text, name) {
-        Ok(texts) => texts,
-        Err(stop) => return stop,
-    };
-    let Ok(header) = file_name(alloc, name, ".h") else {
-        return Outcome::NoMemory;
-    };
-    let Ok(source) = file_name(alloc, name, ".c") else {
-        return Outcome::NoMemory;
-    };
-    match put_both(header.as_str(), source.as_str(), &texts, shelf) {
-        Ok(()) => Outcome::Done,
-        Err(Failed) => Outcome::WriteFault,
-    }
-}
-
-// What the line of an interpretation speaks of: the leaf of a bad row, or else the file.
-fn subject<'a>(spec: &'a str, told: &'a Interpreted) -> &'a [u8]
-    ensures { result.now ≡ subject_of spec.now told.now.outcome told.now.leaves.items }
-{
-    match &told.outcome {
-        Outcome::BadRow { fault, .. } => leaf_name(&told.leaves, fault),
-        _ => spec.as_bytes(),
+    match outcome {
+        Outcome::BadRow { fault, .. } => leaf_name(leaves, fault),
+        _ => file,
     }
 }
 
@@ -196,7 +71,21 @@ pub fn run_tool<S: Source, K: Sink, E: Sink, F: Shelf>(
         Command::Interpret { spec } => {
             first_fault_is_one();
             let told = interpret_file(alloc, spec, input, out, shelf);
-            let _ = tell(tool, subject(spec, &told), &told.outcome, err);
+            let about = subject(spec.as_bytes(), &told.outcome, &told.leaves);
+            let _ = tell(tool, about, &told.outcome, err);
+            told.outcome
+        }
+        Command::Cexec { name } => {
+            texts_spell_one_unit();
+            let told = execute_files(alloc, name, input, out, shelf);
+            let about = subject(told.file.as_bytes(), &told.outcome, &told.leaves);
+            let _ = tell(tool, about, &told.outcome, err);
+            told.outcome
+        }
+        Command::Migrate { old, new } => {
+            texts_spell_one_unit();
+            let told = migrate_files(alloc, old, new, shelf);
+            let _ = tell(tool, told.file.as_bytes(), &told.outcome, err);
             told.outcome
         }
         Command::NoCommand => {
@@ -217,4 +106,5 @@ pub fn outcome_is_one()
     ensures { HasOneOutcome }
 {
     first_fault_is_one();
+    texts_spell_one_unit();
 }

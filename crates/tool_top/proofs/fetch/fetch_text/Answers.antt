@@ -1,5 +1,5 @@
-use Rattle.tool_top.proofs.Stopping.{missing_stops}
+use Rattle.tool_top.proofs.Stopping.{unread_result}
 use Rattle.tool_top.proofs.fetch.fetch_text.Goals as goal
 
-pub returns-in-Err-Missing-clause-err : goal.returns-in-Err-Missing-clause-err
-returns-in-Err-Missing-clause-err g c = missing_stops (g.F.Shelf.files c.args.shelf.now) c.args.spec.now (rw c.in-Err-Missing.field-0-is at c.in-Err-Missing.ensures.found)
+pub returns-clause-err : goal.returns-clause-err
+returns-clause-err g c = unread_result c.fetch_file.result (g.F.Shelf.files c.args.shelf.now) c.args.spec.now c.fetch_file.ensures.err

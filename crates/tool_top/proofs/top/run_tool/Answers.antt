@@ -1,10 +1,12 @@
-use Rattle.tool_top.proofs.Settled.{completes_of, names_of}
-use Rattle.tool_top.proofs.OneSession.{completes_interpret, names_interpret}
+use Rattle.tool_top.proofs.OneCompile.{compile_completes, names_of}
+use Rattle.tool_top.proofs.OneExecution.{completes_execute, names_execute}
+use Rattle.tool_top.proofs.OneMigration.{migrate_completes}
+use Rattle.tool_top.proofs.OneSession.{about_is, completes_interpret, names_interpret}
 use Rattle.tool_top.proofs.top.run_tool.Goals as goal
 
 pub returns-in-Compile-clause-completes : goal.returns-in-Compile-clause-completes
 returns-in-Compile-clause-completes g c =
-    completes_of _ _ _ _ _ _ _ _ _ _ _ _ _ _ _ _ c.in-Compile.ensures.value c.compile-outcome.ensures.answer c.compile-outcome.ensures.faults
+    compile_completes c.first_fault_is_one.ensures.sound c.first_fault_is_one.ensures.one _ _ _ _ _ _ c.in-Compile.ensures.value c.compile-outcome.ensures.answer c.compile-outcome.ensures.faults
 
 pub returns-in-Compile-clause-line : goal.returns-in-Compile-clause-line
 returns-in-Compile-clause-line g c =
@@ -12,8 +14,31 @@ returns-in-Compile-clause-line g c =
 
 pub returns-in-Interpret-clause-completes : goal.returns-in-Interpret-clause-completes
 returns-in-Interpret-clause-completes g c =
-    completes_interpret c.first_fault_is_one-in-Interpret.ensures.sound c.first_fault_is_one-in-Interpret.ensures.meaning _ _ _ _ _ c.in-Interpret.ensures.value c.interpret_file-told.ensures.runs
+    completes_interpret c.first_fault_is_one-in-Interpret.ensures.sound c.first_fault_is_one-in-Interpret.ensures.one c.first_fault_is_one-in-Interpret.ensures.meaning
+    _ _ _ _ _ c.in-Interpret.ensures.value c.interpret_file-told.ensures.runs
 
 pub returns-in-Interpret-clause-line : goal.returns-in-Interpret-clause-line
-returns-in-Interpret-clause-line g c =
-    (_, names_interpret _ _ _ _ _ _ c.in-Interpret.ensures.value c.interpret_file-told.ensures.runs c.interpret_file-told.ensures.leaves, _, rw c.subject.ensures at c.tell-in-Interpret.ensures)
+returns-in-Interpret-clause-line g c = (
+  _,
+  names_interpret _ _ _ _ _ c.interpret_file-told.result.leaves.items _ c.in-Interpret.ensures.value c.interpret_file-told.ensures.runs c.interpret_file-told.ensures.leaves
+      (about_is c.interpret_file-told.result.outcome _ _ _ c.interpret_file-told.result.leaves.items _ c.subject-about.ensures c.as_bytes-in-Interpret.ensures.value c.deref.ensures.value),
+  _,
+  c.tell-in-Interpret.ensures,
+)
+
+pub returns-in-Cexec-clause-completes : goal.returns-in-Cexec-clause-completes
+returns-in-Cexec-clause-completes g c =
+    completes_execute c.texts_spell_one_unit.ensures _ _ _ _ _ c.in-Cexec.ensures.value c.execute_files-told.ensures.runs
+
+pub returns-in-Cexec-clause-line : goal.returns-in-Cexec-clause-line
+returns-in-Cexec-clause-line g c = (
+  _,
+  names_execute _ _ _ _ _ c.execute_files-told.result.leaves.items _ c.in-Cexec.ensures.value c.execute_files-told.ensures.file c.execute_files-told.ensures.leaves
+      (about_is c.execute_files-told.result.outcome _ _ _ c.execute_files-told.result.leaves.items _ c.subject-about-in-Cexec.ensures c.as_bytes-in-Cexec.ensures.value c.deref-in-Cexec.ensures.value),
+  _,
+  c.tell-in-Cexec.ensures,
+)
+
+pub returns-in-Migrate-clause-completes : goal.returns-in-Migrate-clause-completes
+returns-in-Migrate-clause-completes g c =
+    migrate_completes c.texts_spell_one_unit-in-Migrate.ensures _ _ _ _ _ _ c.in-Migrate.ensures.value c.migrate_files-told.ensures.answer c.migrate_files-told.ensures.faults

@@ -1,0 +1,11 @@
+pub mod ReadWords
+pub mod ReadPlaces
+pub mod ReadLeaves
+pub mod ReadRows
+pub mod CallLines
+pub mod RowsSoFar
+pub mod Stepped
+pub mod Started
+pub mod Idle
+pub mod PartsSoFar
+pub mod Few

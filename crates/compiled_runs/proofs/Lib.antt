@@ -1,0 +1,4 @@
+pub mod SameColumns
+pub mod SameSessions
+pub mod SameLines
+pub mod SameOutcomes

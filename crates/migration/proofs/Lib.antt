@@ -1,0 +1,13 @@
+pub mod Listed
+pub mod Rings
+pub mod Places
+pub mod Alike
+pub mod AsOfOld
+pub mod NewTypes
+pub mod NewValues
+pub mod NewSteps
+pub mod NewRuns
+pub mod Totals
+pub mod RingCount
+pub mod NewParts
+pub mod NewRules
