@@ -12,5 +12,6 @@ pub mod OneSession
 pub mod ReadPrograms
 pub mod OneProgram
 pub mod OneExecution
+mod OneDemo
 pub mod OneMigration
 pub mod OneOutcome

@@ -14,6 +14,7 @@ use Rattle.tool_top.proofs.OneCompile.{OneFault, SoundTexts, compile_makes}
 use Rattle.tool_top.proofs.OneExecution.{execute_steps}
 use Rattle.tool_top.proofs.OneMigration.{migrate_makes}
 use Rattle.tool_top.proofs.Programs.{OneUnit}
+use Rattle.tool_top.proofs.OneDemo.{one_demo}
 use Rattle.tool_top.proofs.OneSession.{interpret_steps}
 use Rattle.tool_top.proofs.SessionsRun.{OneMeaning}
 use Rattle.tool_top.proofs.Settled.{one_making}
@@ -28,7 +29,7 @@ one_outcome sound one same unit (cexec name) files left before before' after aft
     one_stepping (cexec name) (IsUnitIn name) executed Undefined IsExecuteAnswer (execute_steps unit name) files left before before' after after' a b t t' sa sb h k
 one_outcome sound one same unit (migrate old name) files left before before' after after' a b t t' sa sb h k =
     one_making (migrate old name) name (IsRenewed old name) (migrate_makes unit old name) files left before before' after after' a b t t' sa sb h k
-one_outcome sound one same unit (demo streams steps) files left before before' after after' a b t t' sa sb h k = h.0 ∙ sym k.0
+one_outcome sound one same unit (demo streams steps) files left before before' after after' a b t t' sa sb h k = one_demo streams steps before after before' after' a b sa sb h k
 one_outcome sound one same unit (standalone reqs spec) files left before before' after after' a b t t' sa sb h k = h.0 ∙ sym k.0
 one_outcome sound one same unit (cfs reqs name) files left before before' after after' a b t t' sa sb h k = h.0 ∙ sym k.0
 one_outcome sound one same unit (ros reqs name) files left before before' after after' a b t t' sa sb h k = h.0 ∙ sym k.0

@@ -1,5 +1,5 @@
 -- The command table: which words are which command.
-use Rattle.std.specs.Prelude.{ℕ, Bool, ◌&&◌, ◌||◌, ◌==◌, not, nat_le, nat_eq, if◌then◌else◌, List, [], ◌∷◌, ◌++◌, length, drop, codes, IsTrue}
+use Rattle.std.specs.Prelude.{ℕ, ◌≤◌, Bool, ◌&&◌, ◌||◌, ◌==◌, not, nat_le, nat_eq, if◌then◌else◌, List, [], ◌∷◌, ◌++◌, length, drop, codes, IsTrue}
 use Rattle.std.specs.List.{list_all, list_any, starts_with}
 use Rattle.std.specs.Cmp.Lexicographic.{pointwise}
 use Rattle.sm_io.specs.Names.{is_name_byte}
@@ -64,11 +64,12 @@ value_of_command (command.Ros reqs name) = ros reqs.now name.now
 value_of_command (command.Fprime reqs name) = fprime reqs.now name.now
 value_of_command command.NoCommand = no_command
 
--- the unit that a command makes has a name
-abbrev pub HasName : CommandValue → Type 0
-HasName (compile spec name) = IsTrue (is_name name)
-HasName (migrate old new) = IsTrue (is_name new)
-HasName _ = Unit {0}
+-- The unit that a command makes has a name; a demonstration has at most 1,000 streams and 1,000,000 steps.
+abbrev pub IsFit : CommandValue → Type 0
+IsFit (compile spec name) = IsTrue (is_name name)
+IsFit (migrate old new) = IsTrue (is_name new)
+IsFit (demo streams steps) = (streams ≤ 1000) × (steps ≤ 1000000)
+IsFit _ = Unit {0}
 
 -- ---- the rows of `copilot`
 

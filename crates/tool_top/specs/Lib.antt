@@ -13,4 +13,5 @@ pub mod Migrate
 pub mod Sessions
 pub mod Interpret
 pub mod Execute
+pub mod Demo
 pub mod Runs

@@ -11,6 +11,7 @@ use Rattle.tool_top.specs.Compile.{RunsCompile}
 use Rattle.tool_top.specs.Migrate.{RunsMigrate}
 use Rattle.tool_top.specs.Interpret.{RunsInterpret, IsReadAs}
 use Rattle.tool_top.specs.Execute.{RunsExecute}
+use Rattle.tool_top.specs.Demo.{RunsDemo}
 use Rattle.tool_top.specs.Programs.{IsUnitIn}
 use Rattle.tool_top.specs.Outside.{Outside}
 use Rattle.tool_top.specs.Wanted.{wanted, contents}
@@ -26,6 +27,7 @@ Runs (compile spec name) before after outcome = RunsCompile spec name before aft
 Runs (interpret spec) before after outcome = RunsInterpret spec before after outcome
 Runs (cexec name) before after outcome = RunsExecute name before after outcome
 Runs (migrate old new) before after outcome = RunsMigrate old new before after outcome
+Runs (demo streams steps) before after outcome = RunsDemo streams steps before after outcome
 Runs no_command before after outcome = (outcome ≡ Usage) × (after ≡ before)
 Runs _ before after outcome = (outcome ≡ Refused (nowhere kind.NotYet)) × (after ≡ before)
 
@@ -60,7 +62,7 @@ pub record IsAccepted (command : CommandValue) (files : Files) : Type 0 where
   pub fine : (refusal : Refusal) → ¬ IsRefusedFor command texts refusal
 
 -- What is accepted is done where none of the command's failures came, or memory ran out; a session where also it has no
--- stop.
+-- stop, and a demonstration always.
 abbrev pub PutsAccepted : CommandValue → Outside → Outside → Outcome → Type 0
 PutsAccepted row before after outcome = IfSome before.files (λ files. IsQuiet row before after → IsAccepted row files → IsFinished outcome)
 
@@ -74,6 +76,7 @@ Completes (compile spec name) before after outcome = PutsAccepted (compile spec 
 Completes (migrate old new) before after outcome = PutsAccepted (migrate old new) before after outcome
 Completes (interpret spec) before after outcome = StepsAccepted (interpret spec) (IsReadAs spec) interpreted before after outcome
 Completes (cexec name) before after outcome = StepsAccepted (cexec name) (IsUnitIn name) executed before after outcome
+Completes (demo streams steps) before after outcome = IsQuiet (demo streams steps) before after → IsFinished outcome
 Completes _ before after outcome = Unit {0}
 
 -- ---- one outcome

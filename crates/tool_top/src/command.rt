@@ -1,9 +1,9 @@
 // The words of a run, and the command that they are.
-ghost use Rattle.std.specs.Prelude.{◌≡◌, [], ◌∷◌, map, string_bytes, codes, IsTrue, IfSome, IfNone, true, false};
+ghost use Rattle.std.specs.Prelude.{◌≤◌, ◌≡◌, [], ◌∷◌, map, string_bytes, codes, IsTrue, IfSome, IfNone, true, false};
 ghost use Rattle.std.specs.List.{list_all};
 ghost use Rattle.sm_io.specs.Words.{is_name};
 ghost use Rattle.spec_words.specs.Decimals.{value_of};
-ghost use Rattle.tool_top.specs.Command.{value_of_command, HasName, copilot_command, ogma_command, command_of, is_compile, is_interpret, is_cexec, is_demo, is_migrate, is_standalone, is_frame, cfs_ends, ros_ends, fprime_ends, application, is_file, is_file_byte, is_file_of, is_apart, is_word};
+ghost use Rattle.tool_top.specs.Command.{value_of_command, IsFit, copilot_command, ogma_command, command_of, is_compile, is_interpret, is_cexec, is_demo, is_migrate, is_standalone, is_frame, cfs_ends, ros_ends, fprime_ends, application, is_file, is_file_byte, is_file_of, is_apart, is_word};
 
 use crate::outcome::Tool;
 use sm_io::is_name;
@@ -136,6 +136,7 @@ fn demo_numbers(word: &[u8], streams: &[u8], steps: &[u8]) -> Option<(u32, u32)>
     ensures none { IfNone result (is_demo word.now streams.now steps.now ≡ false) }
     ensures some { IfSome result (λ n. (is_demo word.now streams.now steps.now ≡ true)
         × (n.0 ≡ value_of streams.now) × (n.1 ≡ value_of steps.now)) }
+    ensures few { IfSome result (λ n. (n.0 ≤ 1000) × (n.1 ≤ 1000000)) }
 {
     if !is_word(word, b"demo") {
         return None;
@@ -163,7 +164,7 @@ fn is_migrate(word: &[u8], old: &[u8], new: &[u8]) -> bool
 
 fn copilot_pair<'a>(word: &'a str, a: &'a str) -> Command<'a>
     ensures value { value_of_command result ≡ copilot_command (word.now ∷ a.now ∷ []) }
-    ensures named { HasName (value_of_command result) }
+    ensures fit { IsFit (value_of_command result) }
 {
     if is_interpret(word.as_bytes(), a.as_bytes()) {
         return Command::Interpret { spec: a };
@@ -176,7 +177,7 @@ fn copilot_pair<'a>(word: &'a str, a: &'a str) -> Command<'a>
 
 fn copilot_triple<'a>(word: &'a str, a: &'a str, b: &'a str) -> Command<'a>
     ensures value { value_of_command result ≡ copilot_command (word.now ∷ a.now ∷ b.now ∷ []) }
-    ensures named { HasName (value_of_command result) }
+    ensures fit { IsFit (value_of_command result) }
 {
     if is_compile(word.as_bytes(), a.as_bytes(), b.as_bytes()) {
         return Command::Compile { spec: a, name: b };
@@ -192,7 +193,7 @@ fn copilot_triple<'a>(word: &'a str, a: &'a str, b: &'a str) -> Command<'a>
 
 fn copilot_command<'a>(words: &'a [String]) -> Command<'a>
     ensures value { value_of_command result ≡ copilot_command (map string_bytes words.now) }
-    ensures named { HasName (value_of_command result) }
+    ensures fit { IsFit (value_of_command result) }
 {
     if words.len() == 2 {
         let [word, a] = words else {
@@ -268,7 +269,7 @@ fn is_fprime(word: &[u8], reqs: &[u8], name: &[u8]) -> bool
 
 fn application<'a>(word: &'a str, reqs: &'a str, name: &'a str) -> Command<'a>
     ensures value { value_of_command result ≡ application word.now reqs.now name.now }
-    ensures named { HasName (value_of_command result) }
+    ensures fit { IsFit (value_of_command result) }
 {
     if is_cfs(word.as_bytes(), reqs.as_bytes(), name.as_bytes()) {
         return Command::Cfs { reqs, name };
@@ -284,7 +285,7 @@ fn application<'a>(word: &'a str, reqs: &'a str, name: &'a str) -> Command<'a>
 
 fn ogma_triple<'a>(word: &'a str, a: &'a str, b: &'a str) -> Command<'a>
     ensures value { value_of_command result ≡ ogma_command (word.now ∷ a.now ∷ b.now ∷ []) }
-    ensures named { HasName (value_of_command result) }
+    ensures fit { IsFit (value_of_command result) }
 {
     if is_standalone(word.as_bytes(), a.as_bytes(), b.as_bytes()) {
         return Command::Standalone { reqs: a, spec: b };
@@ -294,7 +295,7 @@ fn ogma_triple<'a>(word: &'a str, a: &'a str, b: &'a str) -> Command<'a>
 
 fn ogma_command<'a>(words: &'a [String]) -> Command<'a>
     ensures value { value_of_command result ≡ ogma_command (map string_bytes words.now) }
-    ensures named { HasName (value_of_command result) }
+    ensures fit { IsFit (value_of_command result) }
 {
     if words.len() != 3 {
         return Command::NoCommand;
@@ -308,7 +309,7 @@ fn ogma_command<'a>(words: &'a [String]) -> Command<'a>
 /// The command that a tool's words are.
 pub fn command_of<'a>(tool: Tool, words: &'a [String]) -> Command<'a>
     ensures value { value_of_command result ≡ command_of tool (map string_bytes words.now) }
-    ensures named { HasName (value_of_command result) }
+    ensures fit { IsFit (value_of_command result) }
 {
     match tool {
         Tool::Copilot => copilot_command(words),

@@ -7,6 +7,7 @@
 mod analysis;
 mod command;
 mod compiling;
+mod demonstrating;
 mod executing;
 mod fetch;
 mod interpreting;
@@ -22,6 +23,8 @@ pub use top::{outcome_is_one, run_tool};
 
 #[cfg(test)]
 mod compiled_tests;
+#[cfg(test)]
+mod demo_tests;
 #[cfg(test)]
 mod executed_tests;
 #[cfg(test)]

@@ -229,9 +229,9 @@ const WORDS: [Row; 9] = [
     },
     Row {
         tool: Tool::Copilot,
-        words: &["demo", "200", "10000"],
-        code: 1,
-        line: "error: NotYet at 0\n",
+        words: &["demo", "0", "1"],
+        code: 2,
+        line: COPILOT_USAGE,
     },
     Row {
         tool: Tool::Ogma,

@@ -11,6 +11,7 @@ ghost use Rattle.tool_top.specs.Lines.{line_of};
 use crate::analysis::{first_fault_is_one, nowhere};
 use crate::command::{Command, command_of};
 use crate::compiling::compile;
+use crate::demonstrating::run_demo;
 use crate::executing::execute_files;
 use crate::interpreting::interpret_file;
 use crate::migrating::migrate_files;
@@ -54,7 +55,8 @@ pub fn run_tool<S: Source, K: Sink, E: Sink, F: Shelf>(
         result }
     // No call is made on the folder for words of no command and for a command that isn't built.
     ensures idle { IsIdle (command_of tool (map string_bytes words.now)) → shelf.new ≡ shelf.old }
-    // The input is read and the output written by a session alone, and only once its files are read and accepted.
+    // The input is read by a session alone, and the output written by a session or a demonstration, and by a session only
+    // once its files are read and accepted.
     ensures input { LeavesInput (command_of tool (map string_bytes words.now)) result → input.new ≡ input.old }
     ensures out { LeavesOut (command_of tool (map string_bytes words.now)) result → out.new ≡ out.old }
     // The outcome's line is on err, or a prefix of it where err failed.
@@ -87,6 +89,11 @@ pub fn run_tool<S: Source, K: Sink, E: Sink, F: Shelf>(
             let told = migrate_files(alloc, old, new, shelf);
             let _ = tell(tool, told.file.as_bytes(), &told.outcome, err);
             told.outcome
+        }
+        Command::Demo { streams, steps } => {
+            let outcome = run_demo(alloc, streams, steps, out);
+            let _ = tell(tool, b"", &outcome, err);
+            outcome
         }
         Command::NoCommand => {
             let outcome = Outcome::Usage;

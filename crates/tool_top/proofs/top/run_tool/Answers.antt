@@ -1,4 +1,5 @@
 use Rattle.tool_top.proofs.OneCompile.{compile_completes, names_of}
+use Rattle.tool_top.proofs.OneDemo.{demo_completes}
 use Rattle.tool_top.proofs.OneExecution.{completes_execute, names_execute}
 use Rattle.tool_top.proofs.OneMigration.{migrate_completes}
 use Rattle.tool_top.proofs.OneSession.{about_is, completes_interpret, names_interpret}
@@ -42,3 +43,6 @@ returns-in-Cexec-clause-line g c = (
 pub returns-in-Migrate-clause-completes : goal.returns-in-Migrate-clause-completes
 returns-in-Migrate-clause-completes g c =
     migrate_completes c.texts_spell_one_unit-in-Migrate.ensures _ _ _ _ _ _ c.in-Migrate.ensures.value c.migrate_files-told.ensures.answer c.migrate_files-told.ensures.faults
+
+pub returns-in-Demo-clause-completes : goal.returns-in-Demo-clause-completes
+returns-in-Demo-clause-completes g c = demo_completes _ c.in-Demo.streams c.in-Demo.steps _ _ _ c.in-Demo.ensures.value c.run_demo-outcome.ensures.possible c.run_demo-outcome.ensures.line

@@ -1,0 +1,10 @@
+pub mod Building
+pub mod Typing
+pub mod Naming
+pub mod Ranged
+pub mod Added
+pub mod Whole
+pub mod Names
+pub mod Fine
+pub mod Clean
+pub mod Counted

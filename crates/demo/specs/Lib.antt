@@ -1,0 +1,3 @@
+pub mod Demonstration
+pub mod Figures
+pub mod Built
