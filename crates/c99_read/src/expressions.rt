@@ -45,6 +45,7 @@ pub fn ends_list(bytes: &[u8]) -> bool
 
 // Further items, each behind a comma, after those that were read.
 #[cycle(reading)]
+#[inline(never)]
 fn others_at(
     alloc: Global,
     depth: u32,
@@ -69,6 +70,7 @@ fn others_at(
 
 #[cycle(reading)]
 #[tactic(auto, unfolding(crate::specs::ExprAt::list_at))]
+#[inline(never)]
 fn list_of(alloc: Global, depth: u32, bytes: &[u8]) -> Result<(Items<CExpr>, &[u8]), ReadFault>
     ensures { Gives (λ p. (exprs (map tree p.0), p.1.now)) result (spec.list_at (part_at depth) bytes.now) }
 {
@@ -84,6 +86,7 @@ fn list_of(alloc: Global, depth: u32, bytes: &[u8]) -> Result<(Items<CExpr>, &[u
 // ---- forms
 
 #[cycle(reading)]
+#[inline(never)]
 fn unary(alloc: Global, depth: u32, op: CUn, bytes: &[u8]) -> Result<(CExpr, &[u8]), ReadFault>
     ensures { Gives (λ p. (tree p.0, p.1.now)) result (spec.unary (part_at depth) op bytes.now) }
 {
@@ -93,6 +96,7 @@ fn unary(alloc: Global, depth: u32, op: CUn, bytes: &[u8]) -> Result<(CExpr, &[u
 }
 
 #[cycle(reading)]
+#[inline(never)]
 fn casting(alloc: Global, depth: u32, bytes: &[u8]) -> Result<(CExpr, &[u8]), ReadFault>
     ensures { Gives (λ p. (tree p.0, p.1.now)) result (spec.casting (part_at depth) bytes.now) }
 {
@@ -104,6 +108,7 @@ fn casting(alloc: Global, depth: u32, bytes: &[u8]) -> Result<(CExpr, &[u8]), Re
     closed(b")", e, rest)
 }
 
+#[inline(never)]
 fn member(alloc: Global, a: CExpr, bytes: &[u8]) -> Result<(CExpr, &[u8]), ReadFault>
     ensures { Gives (λ p. (tree p.0, p.1.now)) result (spec.member (tree a) bytes.now) }
 {
@@ -113,6 +118,7 @@ fn member(alloc: Global, a: CExpr, bytes: &[u8]) -> Result<(CExpr, &[u8]), ReadF
 }
 
 #[cycle(reading)]
+#[inline(never)]
 fn conditional(
     alloc: Global,
     depth: u32,
@@ -129,6 +135,7 @@ fn conditional(
 }
 
 #[cycle(reading)]
+#[inline(never)]
 fn binary(
     alloc: Global,
     depth: u32,
@@ -144,6 +151,7 @@ fn binary(
 }
 
 #[cycle(reading)]
+#[inline(never)]
 fn operated(alloc: Global, depth: u32, a: CExpr, bytes: &[u8]) -> Result<(CExpr, &[u8]), ReadFault>
     ensures { Gives (λ p. (tree p.0, p.1.now)) result (spec.operated (part_at depth) (tree a) (token bytes.now) (after_token bytes.now)) }
 {
@@ -170,6 +178,7 @@ fn tail(alloc: Global, depth: u32, a: CExpr, bytes: &[u8]) -> Result<(CExpr, &[u
 // ---- compound literals
 
 #[cycle(reading)]
+#[inline(never)]
 fn array_parts<'a>(
     alloc: Global,
     depth: u32,
@@ -186,6 +195,7 @@ fn array_parts<'a>(
 
 #[cycle(reading)]
 #[tactic(auto, using(crate::proofs::Bytes::name_bytes))]
+#[inline(never)]
 fn struct_parts<'a>(
     alloc: Global,
     depth: u32,
@@ -204,6 +214,7 @@ fn struct_parts<'a>(
 }
 
 #[cycle(reading)]
+#[inline(never)]
 fn compound(alloc: Global, depth: u32, bytes: &[u8]) -> Result<(CExpr, &[u8]), ReadFault>
     ensures { Gives (λ p. (tree p.0, p.1.now)) result (spec.compound (part_at depth) bytes.now) }
 {
@@ -261,6 +272,7 @@ fn inside(alloc: Global, depth: u32, bytes: &[u8]) -> Result<(CExpr, &[u8]), Rea
 
 #[cycle(reading)]
 #[tactic(auto, using(crate::proofs::Bytes::ring_name_bytes))]
+#[inline(never)]
 fn ring<'a>(
     alloc: Global,
     depth: u32,
@@ -282,6 +294,7 @@ fn ring<'a>(
 }
 
 #[cycle(reading)]
+#[inline(never)]
 fn picking<'a>(
     alloc: Global,
     depth: u32,
@@ -300,6 +313,7 @@ fn picking<'a>(
 }
 
 #[cycle(reading)]
+#[inline(never)]
 fn not_cell<'a>(
     alloc: Global,
     depth: u32,

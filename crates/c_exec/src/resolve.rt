@@ -95,6 +95,7 @@ fn code_settled(
 }
 
 #[tactic(auto, using(crate::specs::CodeLaws::op_laws))]
+#[inline(never)]
 fn copy_code(unit: &Unit, x: &Name) -> Result<Code, AllocError>
     ensures { IfOk result (λ c. op_of c ≡ spec.code_of unit.now (copy x.now)) }
 {
@@ -103,6 +104,7 @@ fn copy_code(unit: &Unit, x: &Name) -> Result<Code, AllocError>
 }
 
 #[tactic(auto, using(crate::specs::CodeLaws::op_laws))]
+#[inline(never)]
 fn head_code(unit: &Unit, r: &Name) -> Result<Code, AllocError>
     ensures { IfOk result (λ c. op_of c ≡ spec.code_of unit.now (head r.now)) }
 {
@@ -111,6 +113,7 @@ fn head_code(unit: &Unit, r: &Name) -> Result<Code, AllocError>
 }
 
 #[tactic(auto, using(crate::specs::CodeLaws::op_laws))]
+#[inline(never)]
 fn cell_code(unit: &Unit, r: &Name) -> Result<Code, AllocError>
     ensures { IfOk result (λ c. op_of c ≡ spec.code_of unit.now (cell r.now)) }
 {
@@ -120,6 +123,7 @@ fn cell_code(unit: &Unit, r: &Name) -> Result<Code, AllocError>
 
 #[cycle(resolving)]
 #[tactic(auto, using(crate::specs::CodeLaws::op_laws))]
+#[inline(never)]
 fn ring_at_code(alloc: Global, unit: &Unit, r: &Name, a: &CExpr) -> Result<Code, AllocError>
     ensures { IfOk result (λ c. op_of c ≡ spec.code_of unit.now (ring_at r.now (tree a.now))) }
 {
@@ -131,6 +135,7 @@ fn ring_at_code(alloc: Global, unit: &Unit, r: &Name, a: &CExpr) -> Result<Code,
 
 #[cycle(resolving)]
 #[tactic(auto, using(crate::specs::CodeLaws::op_laws))]
+#[inline(never)]
 fn unary_code(alloc: Global, unit: &Unit, op: CUn, a: &CExpr) -> Result<Code, AllocError>
     ensures { IfOk result (λ c. op_of c ≡ spec.code_of unit.now (un op (tree a.now))) }
 {
@@ -140,6 +145,7 @@ fn unary_code(alloc: Global, unit: &Unit, op: CUn, a: &CExpr) -> Result<Code, Al
 }
 
 #[tactic(auto, using(crate::specs::CodeLaws::op_laws))]
+#[inline(never)]
 fn joined(
     alloc: Global,
     op: CBin,
@@ -156,6 +162,7 @@ fn joined(
 }
 
 #[tactic(auto, using(crate::specs::CodeLaws::op_laws))]
+#[inline(never)]
 fn chosen(alloc: Global, c: Code, a: Code, b: Code) -> Result<Code, AllocError>
     ensures { IfOk result (λ e. op_of e ≡ codes.choose (op_of c) (op_of a) (op_of b)) }
 {
@@ -182,6 +189,7 @@ fn fields_in<'a>(unit: &'a Unit, a: Option<Kind<'_>>) -> &'a [CVar]
 
 #[cycle(resolving)]
 #[tactic(auto, using(crate::specs::CodeLaws::op_laws))]
+#[inline(never)]
 fn member_code(alloc: Global, unit: &Unit, a: &CExpr, x: &Name) -> Result<Code, AllocError>
     ensures { IfOk result (λ c. op_of c ≡ spec.code_of unit.now (field (tree a.now) x.now)) }
 {
@@ -192,6 +200,7 @@ fn member_code(alloc: Global, unit: &Unit, a: &CExpr, x: &Name) -> Result<Code, 
 }
 
 #[tactic(auto, using(crate::specs::CodeLaws::op_laws))]
+#[inline(never)]
 fn picked(alloc: Global, width: u32, n: u32, a: Code, i: Code) -> Result<Code, AllocError>
     ensures { IfOk result (λ c. op_of c ≡ codes.pick width n (op_of a) (op_of i)) }
 {
@@ -212,6 +221,7 @@ fn element_kind(x: &Name) -> Kind<'_>
 
 #[cycle(resolving)]
 #[tactic(auto, using(crate::specs::CodeLaws::op_laws))]
+#[inline(never)]
 fn elements_code(
     alloc: Global,
     unit: &Unit,
@@ -230,6 +240,7 @@ fn elements_code(
 
 #[cycle(resolving)]
 #[tactic(auto, using(crate::specs::CodeLaws::op_laws))]
+#[inline(never)]
 fn members_code(
     alloc: Global,
     unit: &Unit,
@@ -276,6 +287,7 @@ pub(crate) fn arguments_code(
 
 #[cycle(resolving)]
 #[tactic(auto, using(crate::specs::CodeLaws::op_laws))]
+#[inline(never)]
 fn array_code(
     alloc: Global,
     unit: &Unit,
@@ -290,6 +302,7 @@ fn array_code(
 
 #[cycle(resolving)]
 #[tactic(auto, using(crate::specs::CodeLaws::op_laws))]
+#[inline(never)]
 fn struct_code(alloc: Global, unit: &Unit, x: &Name, all: &[CExpr]) -> Result<Code, AllocError>
     ensures { IfOk result (λ c. op_of c ≡ spec.code_of unit.now (rec x.now (exprs (map tree all.now)))) }
 {
@@ -299,6 +312,7 @@ fn struct_code(alloc: Global, unit: &Unit, x: &Name, all: &[CExpr]) -> Result<Co
 
 #[cycle(resolving)]
 #[tactic(auto, using(crate::specs::CodeLaws::op_laws))]
+#[inline(never)]
 fn cast_code(alloc: Global, unit: &Unit, to: CScalar, a: &CExpr) -> Result<Code, AllocError>
     ensures { IfOk result (λ c. op_of c ≡ spec.code_of unit.now (cast to (tree a.now))) }
 {

@@ -13,18 +13,21 @@ use sm_io::{Name, Seq};
 use sqlite_items::Items;
 use std::alloc::{AllocError, Global};
 
+#[inline(never)]
 fn named_copy(alloc: Global, x: &Name) -> Result<CExpr, AllocError>
     ensures { IfOk result (λ e. e ≡ CExpr.Copy x.now) }
 {
     Ok(CExpr::Copy(x.copy(alloc)?))
 }
 
+#[inline(never)]
 fn named_head(alloc: Global, r: &Name) -> Result<CExpr, AllocError>
     ensures { IfOk result (λ e. e ≡ CExpr.Head r.now) }
 {
     Ok(CExpr::Head(r.copy(alloc)?))
 }
 
+#[inline(never)]
 fn named_cell(alloc: Global, r: &Name) -> Result<CExpr, AllocError>
     ensures { IfOk result (λ e. e ≡ CExpr.Cell r.now) }
 {
@@ -32,6 +35,7 @@ fn named_cell(alloc: Global, r: &Name) -> Result<CExpr, AllocError>
 }
 
 #[tactic(auto, using(c99_tree::specs::TreeLaws::tree_laws))]
+#[inline(never)]
 fn picked(alloc: Global, x: &Name, n: u32, a: CExpr, i: CExpr) -> Result<CExpr, AllocError>
     ensures { IfOk result (λ e. tree e ≡ t.pick x.now n (tree a) (tree i)) }
 {
@@ -42,6 +46,7 @@ fn picked(alloc: Global, x: &Name, n: u32, a: CExpr, i: CExpr) -> Result<CExpr, 
 // A read of a ring with an index: of one value, it is its cell.
 #[cycle(renewing)]
 #[tactic(auto, using(c99_tree::specs::TreeLaws::tree_laws))]
+#[inline(never)]
 fn renewed_read(alloc: Global, unit: &Unit, r: &Name, at: &CExpr) -> Result<CExpr, AllocError>
     ensures { IfOk result (λ made. tree made ≡ spec.renewed unit.now (t.ring_at r.now (tree at.now))) }
 {
@@ -55,6 +60,7 @@ fn renewed_read(alloc: Global, unit: &Unit, r: &Name, at: &CExpr) -> Result<CExp
 
 #[cycle(renewing)]
 #[tactic(auto, using(c99_tree::specs::TreeLaws::tree_laws))]
+#[inline(never)]
 fn renewed_unary(alloc: Global, unit: &Unit, op: CUn, a: &CExpr) -> Result<CExpr, AllocError>
     ensures { IfOk result (λ made. tree made ≡ spec.renewed unit.now (t.un op (tree a.now))) }
 {
@@ -64,6 +70,7 @@ fn renewed_unary(alloc: Global, unit: &Unit, op: CUn, a: &CExpr) -> Result<CExpr
 
 #[cycle(renewing)]
 #[tactic(auto, using(c99_tree::specs::TreeLaws::tree_laws))]
+#[inline(never)]
 fn renewed_cast(alloc: Global, unit: &Unit, ty: CScalar, a: &CExpr) -> Result<CExpr, AllocError>
     ensures { IfOk result (λ made. tree made ≡ spec.renewed unit.now (t.cast ty (tree a.now))) }
 {
@@ -73,6 +80,7 @@ fn renewed_cast(alloc: Global, unit: &Unit, ty: CScalar, a: &CExpr) -> Result<CE
 
 #[cycle(renewing)]
 #[tactic(auto, using(c99_tree::specs::TreeLaws::tree_laws))]
+#[inline(never)]
 fn renewed_field(alloc: Global, unit: &Unit, a: &CExpr, x: &Name) -> Result<CExpr, AllocError>
     ensures { IfOk result (λ made. tree made ≡ spec.renewed unit.now (t.field (tree a.now) x.now)) }
 {
@@ -83,6 +91,7 @@ fn renewed_field(alloc: Global, unit: &Unit, a: &CExpr, x: &Name) -> Result<CExp
 
 #[cycle(renewing)]
 #[tactic(auto, using(c99_tree::specs::TreeLaws::tree_laws))]
+#[inline(never)]
 fn renewed_array(
     alloc: Global,
     unit: &Unit,
@@ -99,6 +108,7 @@ fn renewed_array(
 
 #[cycle(renewing)]
 #[tactic(auto, using(c99_tree::specs::TreeLaws::tree_laws))]
+#[inline(never)]
 fn renewed_struct(alloc: Global, unit: &Unit, x: &Name, all: &[CExpr]) -> Result<CExpr, AllocError>
     ensures { IfOk result (λ made. tree made ≡ spec.renewed unit.now (t.rec x.now (exprs (map tree all.now)))) }
 {
@@ -147,6 +157,7 @@ fn renewed(alloc: Global, unit: &Unit, e: &CExpr) -> Result<CExpr, AllocError>
 
 #[cycle(renewing)]
 #[tactic(auto, using(c99_tree::specs::TreeLaws::tree_laws))]
+#[inline(never)]
 fn all_renewed(alloc: Global, unit: &Unit, all: &[CExpr]) -> Result<Items<CExpr>, AllocError>
     ensures { IfOk result (λ xs. exprs (map tree xs) ≡ spec.renewed_all unit.now (exprs (map tree all.now))) }
 {
